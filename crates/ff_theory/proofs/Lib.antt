@@ -1,0 +1,40 @@
+-- Rings: equations by a solver and by rewriting, laws carried along maps
+pub mod Solver
+pub mod RingRules
+pub mod Transfer
+
+-- Sums and power series
+pub mod Series
+pub mod Sums
+pub mod Linear
+
+-- Polynomials over a commutative ring
+pub mod Poly
+pub mod Coeffs
+pub mod Lists
+pub mod Division
+pub mod Evaluate
+
+-- Polynomials over a field
+pub mod PolyMap
+pub mod Gcd
+pub mod LowestTerms
+
+-- Fractions, and classes of polynomials modulo one of them
+pub mod Fractions
+pub mod FractionField
+pub mod Quotient
+pub mod QuotientUnits
+
+-- The algebra k(x)[y]/f of a plane equation, and the reduced forms of its elements
+pub mod Algebra
+pub mod ReducedForms
+pub mod FractionForm
+pub mod AlgebraParts
+pub mod Element
+pub mod Irreducible
+
+-- The prime fields
+pub mod Residue
+pub mod PrimeField
+pub mod Prime
