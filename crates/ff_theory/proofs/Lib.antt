@@ -2,6 +2,7 @@
 pub mod Solver
 pub mod RingRules
 pub mod Transfer
+pub mod Powers
 
 -- Sums and power series
 pub mod Series
