@@ -15,6 +15,7 @@ pub mod Coeffs
 pub mod Lists
 pub mod Division
 pub mod Evaluate
+pub mod Horner
 
 -- Polynomials over a field
 pub mod PolyMap
