@@ -1,0 +1,3 @@
+-- The words of the contracts of sources and sinks.
+pub mod Causes
+pub mod Bytes

@@ -1,0 +1,7 @@
+//! Where bytes come from and where they go: the traits [`Source`] and [`Sink`], their
+//! implementations in memory, and the adapters over the readers and writers of std.
+#![tactic(auto)]
+
+mod traits;
+
+pub use traits::{Failed, Sink, Source};
