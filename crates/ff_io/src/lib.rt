@@ -2,6 +2,9 @@
 //! implementations in memory, and the adapters over the readers and writers of std.
 #![tactic(auto)]
 
+mod calls;
+mod mem_source;
 mod traits;
 
+pub use mem_source::MemSource;
 pub use traits::{Failed, Sink, Source};
