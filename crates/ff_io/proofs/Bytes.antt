@@ -15,6 +15,7 @@ pub ReadConsumes-given : (chunk count : ℕ) (left buf : List ℕ) (buf_new left
 ReadConsumes-given chunk count left buf buf_new left_new least is_given placed rest =
     let within : count ≤ length left = omega arith in
     let front : take count buf_new ≡ take count left = ap (take count) placed ∙ take-put count left (drop count buf) within in
-    let size : length buf_new ≡ min count (length left) + (length buf - count) = simp (length-append, length-take, length-drop) at (ap length placed) in
-    (sym (ap₂ (λ (first last : List ℕ). first ++ last) front rest ∙ take-append-drop count left)
-    , λ none room. rest ∙ drop_of_length-le left (omega arith))
+    let size : length buf_new ≡ min count (length left) + (length buf - count) = simp (length-append, length-take, length-drop) at (ap length placed) in (
+      sym (ap₂ (λ (first last : List ℕ). first ++ last) front rest ∙ take-append-drop count left),
+      λ none room. rest ∙ drop_of_length-le left (omega arith),
+    )

@@ -3,8 +3,10 @@
 #![tactic(auto)]
 
 mod calls;
+mod mem_sink;
 mod mem_source;
 mod traits;
 
+pub use mem_sink::MemSink;
 pub use mem_source::MemSource;
 pub use traits::{Failed, Sink, Source};
