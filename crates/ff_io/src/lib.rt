@@ -2,11 +2,13 @@
 //! implementations in memory, and the adapters over the readers and writers of std.
 #![tactic(auto)]
 
+mod adapters;
 mod calls;
 mod mem_sink;
 mod mem_source;
 mod traits;
 
+pub use adapters::{ReadSource, WriteSink};
 pub use mem_sink::MemSink;
 pub use mem_source::MemSource;
 pub use traits::{Failed, Sink, Source};
