@@ -1,6 +1,9 @@
 -- Bytes that are taken from a source and given to a sink.
-use Rattle.std.proofs.Common.{◌≡◌, ◌≤◌, ◌<◌, ◌+◌, ◌-◌, ◌++◌, ℕ, List, [], length, take, drop, min, Some, Ok, ap, ap₂, sym, ◌∙◌, arith, length-take-le, take-append-drop, take_at, length-append, length-take, length-drop, drop_of_length-le}
-use Rattle.std.specs.Io.KnownBytes.{ReadConsumes}
+use Rattle.std.proofs.Common.{subst, take-add, take_all, ◌≡◌, ◌≤◌, ◌<◌, ◌+◌, ◌-◌, ◌++◌, ℕ, List, [], length, take, drop, min, Some, Ok, ap, ap₂, sym, ◌∙◌, arith, length-take-le, take-append-drop, take_at, length-append, length-take, length-drop, drop_of_length-le}
+use Rattle.std.specs.Io.KnownBytes.{Appends, Consumes, ReadConsumes}
+use Rattle.std.proofs.KnownBytes.{Appends-trans, Consumes-trans}
+use Rattle.std.specs.declared.option.Option.{Option}
+use Rattle.ff_io.specs.Bytes.{TakesSome}
 use Rattle.ff_io.specs.declared.traits.Failed.{Failed}
 
 -- the bytes that were put in front of a buffer are its first
@@ -19,3 +22,16 @@ ReadConsumes-given chunk count left buf buf_new left_new least is_given placed r
       sym (ap₂ (λ (first last : List ℕ). first ++ last) front rest ∙ take-append-drop count left),
       λ none room. rest ∙ drop_of_length-le left (omega arith),
     )
+
+-- the first bytes were written, and then some of those after them
+pub Appends-take : (a b c : Option (List ℕ)) (bytes rest : List ℕ) (done count : ℕ) → Appends a b (take done bytes)
+    → rest ≡ take (length bytes - done) (drop done bytes) → Appends b c (take count rest) → Appends a c (take (done + count) bytes)
+Appends-take a b c bytes rest done count first is_rest second =
+    let whole : rest ≡ drop done bytes = is_rest ∙ take_all (length bytes - done) (drop done bytes) (omega (arith, length-drop done bytes)) in
+    subst (Appends a c) (ap (λ l. take done bytes ++ take count l) whole ∙ sym (take-add done count bytes)) (Appends-trans a b c _ _ first second)
+
+-- some bytes were taken, and then some more
+pub TakesSome-more : (a b c : Option (List ℕ)) (taken : List ℕ) (more limit : ℕ) → Consumes a b taken → TakesSome more b c
+    → length taken + more ≤ limit → TakesSome limit a c
+TakesSome-more a b c taken more limit first (last, within, second) fits =
+    (taken ++ last, omega (arith, length-append taken last), Consumes-trans a b c taken last first second)
