@@ -1,5 +1,5 @@
 -- Bytes that are taken from a source and given to a sink.
-use Rattle.std.proofs.Common.{subst, take-add, take_all, ◌≡◌, ◌≤◌, ◌<◌, ◌+◌, ◌-◌, ◌++◌, ℕ, List, [], length, take, drop, min, Some, Ok, ap, ap₂, sym, ◌∙◌, arith, length-take-le, take-append-drop, take_at, length-append, length-take, length-drop, drop_of_length-le}
+use Rattle.std.proofs.Common.{subst, take-add, take_all, ◌≡◌, ◌≤◌, ◌+◌, ◌-◌, ◌++◌, ℕ, List, length, take, drop, min, Some, Ok, ap, ap₂, sym, ◌∙◌, arith, length-take-le, take-append-drop, take_at, length-append, length-take, length-drop, drop_of_length-le}
 use Rattle.std.specs.Io.KnownBytes.{Appends, Consumes, ReadConsumes}
 use Rattle.std.proofs.KnownBytes.{Appends-trans, Consumes-trans}
 use Rattle.std.specs.declared.option.Option.{Option}

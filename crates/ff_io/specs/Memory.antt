@@ -1,6 +1,6 @@
 -- Sources and sinks in memory, as their callers see them. Their calls are numbered from 1, and a call past the
 -- last value of u64 has no number.
-use Rattle.std.specs.Prelude.{◌≡◌, ◌+◌, ◌-◌, ◌^◌, ◌<◌, ◌++◌, ◌⊎◌, ℕ, List, length, take, drop, min, Result, Ok, Err}
+use Rattle.std.specs.Prelude.{◌≡◌, ◌+◌, ◌-◌, ◌^◌, ◌<◌, ◌++◌, ℕ, List, length, take, drop, min, Result, Ok, Err}
 use Rattle.std.specs.List.{Contains}
 use Rattle.ff_io.specs.Causes.{raised, faults_after}
 
