@@ -1,0 +1,2 @@
+-- Pairs of elements put for x and y.
+pub mod Substitution
