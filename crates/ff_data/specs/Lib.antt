@@ -1,2 +1,0 @@
--- Pairs of elements put for x and y.
-pub mod Substitution
