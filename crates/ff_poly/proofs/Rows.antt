@@ -1,5 +1,7 @@
 use Rattle.std.proofs.Common.{◌≡◌, ℕ, zero, suc, ◌+◌, ◌-◌, ◌<◌, ◌≤◌, ◌⊎◌, inl, inr, max, List, [], ◌∷◌, ◌++◌, length, map, get_or, take, refl, sym, ◌∙◌, ap, ap₂, arith, All}
-use Rattle.std.proofs.lemmas.Bool.{cases_lt}
+use Rattle.std.proofs.lemmas.Grind.{common_steps}
+use Rattle.std.specs.Ordering.{ord_max}
+use Rattle.std.proofs.Common.{nat_cmp}
 use Rattle.ff_theory.specs.Ring.{RingOps, IsCommRing, IsTested, Elements, IsElement}
 use Rattle.ff_theory.specs.Poly.{coeff, poly, polynomials}
 use Rattle.ff_theory.specs.Sum.{sum_below}
@@ -15,6 +17,9 @@ pub row-length : {E : Type 0} (rows : List (List E)) (i : ℕ) → length (get_o
 row-length [] i = omega arith
 row-length (p ∷ rows) zero = omega arith
 row-length (p ∷ rows) (suc i) = omega (arith, row-length rows i)
+
+pub ord_max-max : (a b : ℕ) → ord_max nat_cmp a b ≡ max a b
+ord_max-max a b = grind (arith, common_steps)
 
 pub x_size-take : {E : Type 0} (rows : List (List E)) (i m : ℕ) (d : List E) → i < length rows → m ≡ suc i → max (x_size (take i rows)) (length (get_or rows i d)) ≡ x_size (take m rows)
 x_size-take {E = E} rows i m d l e = go rows i l ∙ ap (λ n. x_size (take n rows)) (sym e)
@@ -36,13 +41,14 @@ module _ {E : Type 0} (K : Elements E) where
   row-each (p ∷ rows) (suc i) h = row-each rows i (λ k d l. h (suc k) d (omega arith))
 
   -- row i of a product, summed up by its index
-  pub product-step : (a b : List (List E)) (i j m : ℕ) (s t : List E) → m ≡ suc j
+  pub product-step : IsCommRing K.ring → IsTested K.ring → (a b : List (List E)) (i j m : ℕ) (o s t : List E) → m ≡ suc j
       → poly_of K t ≡ (polynomials K.ring).add (poly_of K s) ((polynomials K.ring).mul (poly_of K (get_or a j [])) (poly_of K (get_or b (i - j) [])))
-      → poly_of K s ≡ sum_below (polynomials K.ring) j (λ j. (polynomials K.ring).mul (coeff (polynomials K.ring) (map (λ p. poly_of K p) a) j) (coeff (polynomials K.ring) (map (λ p. poly_of K p) b) (i - j)))
-      → poly_of K t ≡ sum_below (polynomials K.ring) m (λ j. (polynomials K.ring).mul (coeff (polynomials K.ring) (map (λ p. poly_of K p) a) j) (coeff (polynomials K.ring) (map (λ p. poly_of K p) b) (i - j)))
-  product-step a b i j m s t e ht hs =
+      → poly_of K s ≡ (polynomials K.ring).add (poly_of K o) (sum_below (polynomials K.ring) j (λ j. (polynomials K.ring).mul (coeff (polynomials K.ring) (map (λ p. poly_of K p) a) j) (coeff (polynomials K.ring) (map (λ p. poly_of K p) b) (i - j))))
+      → poly_of K t ≡ (polynomials K.ring).add (poly_of K o) (sum_below (polynomials K.ring) m (λ j. (polynomials K.ring).mul (coeff (polynomials K.ring) (map (λ p. poly_of K p) a) j) (coeff (polynomials K.ring) (map (λ p. poly_of K p) b) (i - j))))
+  product-step laws tests a b i j m o s t e ht hs =
       ht ∙ ap₂ (polynomials K.ring).add hs (ap₂ (polynomials K.ring).mul (row-value a j) (row-value b (i - j)))
-      ∙ ap (λ n. sum_below (polynomials K.ring) n (λ j. (polynomials K.ring).mul (coeff (polynomials K.ring) (map (λ p. poly_of K p) a) j) (coeff (polynomials K.ring) (map (λ p. poly_of K p) b) (i - j)))) (sym e)
+      ∙ (polynomial_laws K.ring laws tests).add_assoc (poly_of K o) _ _
+      ∙ ap (λ n. (polynomials K.ring).add (poly_of K o) (sum_below (polynomials K.ring) n (λ j. (polynomials K.ring).mul (coeff (polynomials K.ring) (map (λ p. poly_of K p) a) j) (coeff (polynomials K.ring) (map (λ p. poly_of K p) b) (i - j))))) (sym e)
 
   pub product_row : IsCommRing K.ring → IsTested K.ring → (a b : List (List E)) (i : ℕ) (r : List E)
       → poly_of K r ≡ sum_below (polynomials K.ring) (i + 1) (λ j. (polynomials K.ring).mul (coeff (polynomials K.ring) (map (λ p. poly_of K p) a) j) (coeff (polynomials K.ring) (map (λ p. poly_of K p) b) (i - j)))
