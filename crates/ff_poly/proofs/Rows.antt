@@ -1,4 +1,4 @@
-use Rattle.std.proofs.Common.{◌≡◌, ℕ, zero, suc, ◌+◌, ◌-◌, ◌<◌, ◌≤◌, ◌⊎◌, inl, inr, max, List, [], ◌∷◌, ◌++◌, length, map, get_or, take, refl, sym, ◌∙◌, ap, ap₂, arith, All}
+use Rattle.std.proofs.Common.{◌≡◌, ℕ, zero, suc, ◌+◌, ◌-◌, ◌<◌, ◌≤◌, max, List, [], ◌∷◌, length, map, get_or, take, refl, sym, ◌∙◌, ap, ap₂, arith, All}
 use Rattle.std.proofs.lemmas.Grind.{common_steps}
 use Rattle.std.specs.Ordering.{ord_max}
 use Rattle.std.proofs.Common.{nat_cmp}
@@ -7,8 +7,7 @@ use Rattle.ff_theory.specs.Poly.{coeff, poly, polynomials}
 use Rattle.ff_theory.specs.Sum.{sum_below}
 use Rattle.ff_theory.proofs.Series.{series_mul}
 use Rattle.ff_theory.proofs.Sums.{series_mul-sum}
-use Rattle.ff_theory.proofs.Poly.{polynomial_laws, polynomial_tests}
-use Rattle.ff_theory.proofs.Coeffs.{poly_ext}
+use Rattle.ff_theory.proofs.Poly.{polynomial_laws}
 use Rattle.ff_poly.specs.Words.{poly_of, IsPoly, x_size}
 use Rattle.ff_poly.proofs.Negative.{neg_by_coeffs, neg-zero}
 

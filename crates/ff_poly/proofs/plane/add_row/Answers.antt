@@ -1,4 +1,4 @@
-use Rattle.std.proofs.Common.{◌≡◌, ◌+◌, ◌-◌, [], get_or, length, map, refl, sym, ◌∙◌, ap, ap₂, subst, arith, All}
+use Rattle.std.proofs.Common.{◌≡◌, ◌+◌, ◌-◌, length, map, refl, sym, ◌∙◌, ap, ap₂, subst, arith, All}
 use Rattle.ff_theory.specs.Ring.{IsElement}
 use Rattle.ff_theory.specs.Poly.{polynomials, coeff}
 use Rattle.ff_theory.specs.Sum.{sum_below}

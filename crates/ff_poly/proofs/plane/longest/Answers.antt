@@ -1,4 +1,4 @@
-use Rattle.std.proofs.Common.{◌≡◌, ◌+◌, length, take, ◌∙◌, ap, arith}
+use Rattle.std.proofs.Common.{◌+◌, length, ◌∙◌, ap, arith}
 use Rattle.std.proofs.lemmas.List.{take_all}
 use Rattle.ff_poly.specs.Words.{x_size}
 use Rattle.ff_poly.proofs.Rows.{x_size-take, ord_max-max}

@@ -1,4 +1,4 @@
-use Rattle.std.proofs.Common.{◌≡◌, [], ◌∷◌, ◌++◌, map, take, sym, ◌∙◌, ap, subst, arith, All}
+use Rattle.std.proofs.Common.{map, sym, ◌∙◌, ap, subst, All}
 use Rattle.std.proofs.lemmas.List.Elements.{All-push}
 use Rattle.ff_theory.specs.Poly.{polynomials}
 use Rattle.ff_theory.proofs.Lists.{map_push, map_whole}

@@ -1,4 +1,4 @@
-use Rattle.std.proofs.Common.{◌≡◌, ◌+◌, ◌<◌, [], ◌∷◌, ◌++◌, length, map, get_or, sym, ◌∙◌, ap, ap₂, subst, arith, All, rules}
+use Rattle.std.proofs.Common.{◌≡◌, map, sym, ◌∙◌, ap, ap₂, subst, arith, All, rules}
 use Rattle.std.proofs.lemmas.List.Elements.{All-push}
 use Rattle.ff_theory.specs.Ring.{IsElement}
 use Rattle.ff_theory.specs.Poly.{coeff, polynomials}
