@@ -12,6 +12,7 @@ pub mod Linear
 pub mod Poly
 pub mod Coeffs
 pub mod Lists
+pub mod InPlace
 pub mod Division
 pub mod Evaluate
 
