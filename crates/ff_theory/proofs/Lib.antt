@@ -2,6 +2,7 @@
 pub mod Solver
 pub mod RingRules
 pub mod Transfer
+pub mod Powers
 
 -- Sums and power series
 pub mod Series
@@ -15,6 +16,7 @@ pub mod Lists
 pub mod InPlace
 pub mod Division
 pub mod Evaluate
+pub mod Horner
 
 -- Polynomials over a field
 pub mod PolyMap
