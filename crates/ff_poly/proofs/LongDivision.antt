@@ -1,5 +1,5 @@
-use Rattle.std.proofs.Common.{◌≡◌, ℕ, zero, suc, ◌+◌, ◌-◌, ◌<◌, ◌≤◌, IsTrue, List, [], ◌∷◌, ◌++◌, length, map, get_or, set, take, drop, refl, sym, ◌∙◌, ap, arith}
-use Rattle.std.proofs.lemmas.List.{take_all, drop_all, length-map}
+use Rattle.std.proofs.Common.{◌≡◌, ℕ, zero, suc, ◌+◌, ◌-◌, ◌<◌, ◌≤◌, IsTrue, List, [], ◌∷◌, ◌++◌, length, map, get_or, set, take, drop, refl, sym, ◌∙◌, ap, ap₂, subst, arith}
+use Rattle.std.proofs.lemmas.List.{take_all, drop_all, length-map, length-take-le, length-drop}
 use Rattle.ff_theory.specs.Ring.{RingOps, IsCommRing, IsTested}
 use Rattle.ff_theory.specs.Poly.{coeff, ends_in_nonzero, trim, list_scale, Poly, poly, polynomials}
 use Rattle.ff_theory.specs.Division.{size, IsDivision}
@@ -29,6 +29,10 @@ drop-written {E = E} [] row zero m y e l = go row m l
 drop-written [] row (suc n) m y e l = absurd (omega arith)
 drop-written (a ∷ p) row zero m y e l = absurd (omega arith)
 drop-written (a ∷ p) row (suc n) m y e l = drop-written p row n m y (omega arith) l
+
+-- what follows the first n entries
+pub rest_whole : {E : Type 0} (n : ℕ) (p : List E) → take (length p - n) (drop n p) ≡ drop n p
+rest_whole n p = take_all (length p - n) (drop n p) (omega (arith, length-drop n p))
 
 module _ (R : RingOps) (laws : IsCommRing R) (tests : IsTested R) where
   PL : IsCommRing (polynomials R)
@@ -146,6 +150,12 @@ module _ (R : RingOps) (laws : IsCommRing R) (tests : IsTested R) where
     pub last_nonzero : (p : List E) (x : E) (n : ℕ) → IsTrue (ends_in_nonzero R (map f p)) → length p ≡ suc n → x ≡ get_or p n x → ¬ (f x ≡ R.zero)
     last_nonzero p x n h e hx z = top_nonzero R laws tests (poly R (map f p)) n (poly-size p h ∙ e) (poly-coeff R laws tests (map f p) n ∙ coeff-map R f p n x (omega arith) ∙ ap f (sym hx) ∙ z)
 
-    pub is_division : (a q r b : List E) → IsTrue (ends_in_nonzero R (map f b)) → length r < length b → poly R (map f a) ≡ (polynomials R).add ((polynomials R).mul (poly R (map f q)) (poly R (map f b))) (poly R (map f r))
-        → IsDivision R (poly R (map f a)) (poly R (map f b)) (poly R (map f q)) (poly R (map f r))
-    is_division a q r b h l e = record { sum = e; smaller = omega (arith, poly-size-le r, poly-size b h, l) }
+    -- the two parts of a row that was divided in place
+    pub division_parts : (a c row b d : List E) (n : ℕ) (q r : Poly R) → c ≡ a → d ≡ b → IsTrue (ends_in_nonzero R (map f b)) → n < length d → n ≤ length row
+        → poly R (map f c) ≡ (polynomials R).add ((polynomials R).mul (poly R (map f (drop n row))) (poly R (map f d))) (poly R (map f (take n row)))
+        → q ≡ poly R (map f (drop n row)) → r ≡ poly R (map f (take n row)) → IsDivision R (poly R (map f a)) (poly R (map f b)) q r
+    division_parts a c row b d n q r hc hd h l k e hq hr = record {
+      sum = ap (λ p. poly R (map f p)) (sym hc) ∙ e ∙ ap (λ p. (polynomials R).add ((polynomials R).mul (poly R (map f (drop n row))) (poly R (map f p))) (poly R (map f (take n row)))) hd
+          ∙ ap₂ (λ q r. (polynomials R).add ((polynomials R).mul q (poly R (map f b))) r) (sym hq) (sym hr);
+      smaller = let s : size R r ≤ length (take n row) = subst (λ (t : Poly R). size R t ≤ length (take n row)) (sym hr) (poly-size-le (take n row)) in omega (arith, s, poly-size b h, l, length-take-le n row k, ap length hd);
+    }

@@ -1,5 +1,5 @@
 // Division with remainder.
-ghost use Rattle.std.specs.Prelude.{◌≡◌, ◌<◌, ◌-◌, length, take, drop, IfOk};
+ghost use Rattle.std.specs.Prelude.{◌≡◌, ◌<◌, ◌≤◌, length, take, drop, IfOk};
 ghost use Rattle.std.specs.List.{All};
 ghost use Rattle.ff_theory.specs.Ring.{IsElement};
 ghost use Rattle.ff_theory.specs.Poly.{polynomials};
@@ -28,30 +28,27 @@ impl<E: Copy + Eq + Default> Poly<E> {
         ensures division { IfOk result (λ r. IsDivision (K.elements k.now).ring (poly_of (K.elements k.now) self.now) (poly_of (K.elements k.now) b.now) (poly_of (K.elements k.now) r.0) (poly_of (K.elements k.now) r.1)) }
     {
         let mut row = SmallVec::from_slice(alloc, self.coeffs())?;
-        divide_row(k, row.as_mut_slice(), b.coeffs());
-        let degree = b.coeffs().len() - 1;
-        if row.len() <= degree {
-            return Ok((Poly::zero(alloc), Poly::trimmed(k, row)));
-        }
-        let quotient = Poly::from_coeffs(alloc, k, &row.as_slice()[degree..])?;
-        row.truncate(degree);
+        let cut = divide_row(k, row.as_mut_slice(), b.coeffs());
+        let quotient = Poly::from_coeffs(alloc, k, &row.as_slice()[cut..])?;
+        row.truncate(cut);
         Ok((quotient, Poly::trimmed(k, row)))
     }
 }
 
-/// Divides `row` by `b` in place: the entries from the degree of `b` on become the quotient,
-/// and those before it the remainder.
-fn divide_row<E: Copy + Eq, K: FiniteField<E = E>>(k: &K, row: &mut [E], b: &[E])
+/// Divides `row` by `b` in place, and returns where the quotient begins: the entries before it are the remainder.
+fn divide_row<E: Copy + Eq, K: FiniteField<E = E>>(k: &K, row: &mut [E], b: &[E]) -> usize
     requires row { All (IsElement (K.elements k.now)) row.old }
     requires b { IsPoly (K.elements k.now) b.now }
     requires nonzero { 0 < length b.now }
+    ensures within { result ≤ length row.old }
+    ensures smaller { result < length b.now }
     ensures len { length row.new ≡ length row.old }
     ensures each { All (IsElement (K.elements k.now)) row.new }
-    ensures value { poly_of (K.elements k.now) row.old ≡ (polynomials (K.elements k.now).ring).add ((polynomials (K.elements k.now).ring).mul (poly_of (K.elements k.now) (drop (length b.now - 1) row.new)) (poly_of (K.elements k.now) b.now)) (poly_of (K.elements k.now) (take (length b.now - 1) row.new)) }
+    ensures value { poly_of (K.elements k.now) row.old ≡ (polynomials (K.elements k.now).ring).add ((polynomials (K.elements k.now).ring).mul (poly_of (K.elements k.now) (drop result row.new)) (poly_of (K.elements k.now) b.now)) (poly_of (K.elements k.now) (take result row.new)) }
 {
     let degree = b.len() - 1;
     if row.len() <= degree {
-        return;
+        return row.len();
     }
     let low = &b[..degree];
     let inverse = k.inv(b[degree]);
@@ -61,4 +58,5 @@ fn divide_row<E: Copy + Eq, K: FiniteField<E = E>>(k: &K, row: &mut [E], b: &[E]
         add_scaled(k, &mut row[..top], at, k.neg(digit), low);
         row[top] = digit;
     }
+    degree
 }

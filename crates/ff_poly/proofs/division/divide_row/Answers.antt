@@ -9,7 +9,7 @@ use Rattle.ff_poly.proofs.division.divide_row.Goals as goal
 pub returns-then-row-degree-clause-value : goal.returns-then-row-degree-clause-value
 returns-then-row-degree-clause-value g c =
     let K = g.K.Ring.elements c.args.k.now in
-    divide-start K.ring (g.met.K.Ring.laws c.args.k.now) (g.met.K.Ring.tests c.args.k.now) K.value c.args.b.now c.args.row.now 0 (length c.args.b.now - 1) (omega arith)
+    divide-start K.ring (g.met.K.Ring.laws c.args.k.now) (g.met.K.Ring.tests c.args.k.now) K.value c.args.b.now c.args.row.now 0 (length c.args.row.now) (omega arith)
 
 pub inv-inverse-requires-clause-nonzero : goal.inv-inverse-requires-clause-nonzero
 inv-inverse-requires-clause-nonzero g c =
