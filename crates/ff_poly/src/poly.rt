@@ -15,7 +15,7 @@ use std::marker::Model;
 /// A polynomial in x: its coefficients by rising power, the last one not zero.
 #[derive(Drop)]
 pub struct Poly<E> {
-    items: SmallVec<E, 8>,
+    pub(crate) items: SmallVec<E, 8>,
 }
 
 impl<E> Model for Poly<E> {
@@ -77,7 +77,7 @@ impl<E: Copy + Eq + Default> Poly<E> {
     }
 
     /// The polynomial of a list, whose zeros at the end are dropped.
-    fn trimmed<K: FiniteField<E = E>>(k: &K, mut items: SmallVec<E, 8>) -> Poly<E>
+    pub(crate) fn trimmed<K: FiniteField<E = E>>(k: &K, mut items: SmallVec<E, 8>) -> Poly<E>
         requires { All (IsElement (K.elements k.now)) items.items }
         ensures poly { IsPoly (K.elements k.now) result }
         ensures value { poly_of (K.elements k.now) result ≡ poly_of (K.elements k.now) items.items }
@@ -191,7 +191,7 @@ impl<E: Copy + Eq + Default> Poly<E> {
     }
 
     /// The product of two lists whose product has a length within usize.
-    fn product<K: FiniteField<E = E>>(
+    pub(crate) fn product<K: FiniteField<E = E>>(
         alloc: Global,
         k: &K,
         a: &[E],
