@@ -3,12 +3,13 @@ use Rattle.std.proofs.lemmas.Grind.{common_steps}
 use Rattle.std.specs.Ordering.{ord_max}
 use Rattle.std.proofs.Common.{nat_cmp}
 use Rattle.ff_theory.specs.Ring.{RingOps, IsCommRing, IsTested, Elements, IsElement}
-use Rattle.ff_theory.specs.Poly.{coeff, poly, polynomials}
+use Rattle.ff_theory.specs.Poly.{coeff, poly, polynomials, list_scale}
 use Rattle.ff_theory.specs.Sum.{sum_below}
 use Rattle.ff_theory.proofs.Series.{series_mul}
 use Rattle.ff_theory.proofs.Sums.{series_mul-sum}
 use Rattle.ff_theory.proofs.Poly.{polynomial_laws}
 use Rattle.ff_poly.specs.Words.{poly_of, IsPoly, x_size}
+use Rattle.ff_poly.proofs.Monomial.{monomial-mul}
 use Rattle.ff_poly.proofs.Negative.{neg_by_coeffs, neg-zero}
 
 -- the row read at a place, none past the end
@@ -16,6 +17,14 @@ pub row-length : {E : Type 0} (rows : List (List E)) (i : ℕ) → length (get_o
 row-length [] i = omega arith
 row-length (p ∷ rows) zero = omega arith
 row-length (p ∷ rows) (suc i) = omega (arith, row-length rows i)
+
+pub item-length : {E : Type 0} (rows : List (List E)) (i : ℕ) (p : List E) → i < length rows → p ≡ get_or rows i p → length p ≤ x_size rows
+item-length {E = E} rows i p l e = let h : length (get_or rows i p) ≤ x_size rows = go rows i l in omega (arith, h, ap length e)
+  where
+    go : (rows : List (List E)) (i : ℕ) → i < length rows → length (get_or rows i p) ≤ x_size rows
+    go [] i l = absurd (omega arith)
+    go (q ∷ rows) zero l = omega arith
+    go (q ∷ rows) (suc i) l = omega (arith, go rows i (omega arith))
 
 pub ord_max-max : (a b : ℕ) → ord_max nat_cmp a b ≡ max a b
 ord_max-max a b = grind (arith, common_steps)
@@ -65,3 +74,12 @@ module _ (R : RingOps) (laws : IsCommRing R) (tests : IsTested R) where
       go [] i = sym (neg-zero R laws)
       go (a ∷ p) zero = refl
       go (a ∷ p) (suc i) = go p i
+
+  -- and one of which each entry is c times an entry
+  pub mul_by_map : {A B : Type 0} (f : A → R.carrier) (g : B → R.carrier) (c : R.carrier) (p : List A) (q : List B) → map g q ≡ map (λ a. R.mul c (f a)) p
+      → poly R (map g q) ≡ (polynomials R).mul (poly R (c ∷ [])) (poly R (map f p))
+  mul_by_map {A = A} f g c p q e = ap (poly R) (e ∙ go p) ∙ sym (monomial-mul R laws tests 0 c (map f p))
+    where
+      go : (p : List A) → map (λ a. R.mul c (f a)) p ≡ list_scale R c (map f p)
+      go [] = refl
+      go (a ∷ p) = ap (λ t. R.mul c (f a) ∷ t) (go p)
