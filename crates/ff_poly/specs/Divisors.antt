@@ -1,0 +1,23 @@
+use Rattle.std.specs.Prelude.{◌≡◌, ℕ, ◌<◌, ◌-◌, List, length, map}
+use Rattle.ff_theory.specs.Ring.{RingOps, Elements}
+use Rattle.ff_theory.specs.Poly.{coeff}
+
+-- the leading coefficient, 0 for the polynomial 0
+abbrev pub leading : {E : Type 0} → (K : Elements E) → List E → K.carrier
+leading K p = coeff K.ring (map K.value p) (length p - 1)
+
+-- d divides a
+abbrev pub Divides : (R : RingOps) → R.carrier → R.carrier → Type 0
+Divides R d a = (q : R.carrier) × (a ≡ R.mul q d)
+
+-- g divides a and b, and what divides both divides g
+pub record IsGcd (R : RingOps) (a b g : R.carrier) : Type 0 where
+  pub of_first : Divides R g a
+  pub of_second : Divides R g b
+  pub greatest : (d : R.carrier) → Divides R d a → Divides R d b → Divides R d g
+
+-- g divides a and h 0 .. h (n - 1), and what divides all of these divides g
+pub record IsGcdOfAll (R : RingOps) (a : R.carrier) (h : ℕ → R.carrier) (n : ℕ) (g : R.carrier) : Type 0 where
+  pub of_first : Divides R g a
+  pub of_each : (i : ℕ) → i < n → Divides R g (h i)
+  pub greatest : (d : R.carrier) → Divides R d a → ((i : ℕ) → i < n → Divides R d (h i)) → Divides R d g
