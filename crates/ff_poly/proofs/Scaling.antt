@@ -1,4 +1,4 @@
-use Rattle.std.proofs.Common.{◌≡◌, ℕ, zero, suc, ◌+◌, ◌-◌, ◌<◌, ◌≤◌, List, [], ◌∷◌, cond, length, map, refl, sym, ◌∙◌, ap, arith}
+use Rattle.std.proofs.Common.{◌≡◌, ℕ, zero, suc, ◌+◌, ◌-◌, ◌<◌, ◌≤◌, List, [], ◌∷◌, cond, length, map, get_or, refl, sym, ◌∙◌, ap, ap₂, arith}
 use Rattle.ff_theory.specs.Ring.{RingOps, IsCommRing, IsTested, Elements}
 use Rattle.ff_theory.specs.Lawful.{Lawful}
 use Rattle.ff_theory.specs.Poly.{coeff, list_scale, Poly, poly, polynomials}
@@ -11,6 +11,7 @@ use Rattle.ff_theory.proofs.PolyMap.{same_false}
 use Rattle.ff_poly.specs.Words.{poly_of, IsPoly}
 use Rattle.ff_poly.specs.Monomial.{raised, monomial}
 use Rattle.ff_poly.specs.Divisors.{leading}
+use Rattle.ff_poly.proofs.Words.{entry}
 use Rattle.ff_poly.proofs.Monomial.{monomial-mul}
 use Rattle.ff_poly.proofs.Product.{poly-coeff}
 use Rattle.ff_poly.proofs.LongDivision.{poly-size, monomial-mul-monomial}
@@ -26,6 +27,10 @@ module _ (R : RingOps) (laws : IsCommRing R) (tests : IsTested R) where
 module _ {E : Type 0} (K : Elements E) (L : Lawful K) where
   pub lead-nonzero : (p : List E) → IsPoly K p → 0 < length p → ¬ (leading K p ≡ K.zero)
   lead-nonzero p h l z = top_nonzero K.ring L.laws L.tests (poly_of K p) (length p - 1) (poly-size K.ring L.laws L.tests K.value p h.canonical ∙ omega (arith, l)) (poly-coeff K.ring L.laws L.tests (map K.value p) (length p - 1) ∙ z)
+
+  -- the last entry that the code read
+  pub lead-entry : (p q m : List E) (x : E) → q ≡ p → m ≡ p → ¬ (length m ≡ 0) → x ≡ get_or q (length m - 1) x → K.value x ≡ leading K p
+  lead-entry p q m x hq hm some e = entry K q (length m - 1) x (omega (arith, ap length hq, ap length hm)) e ∙ ap₂ (λ q m. coeff K.ring (map K.value q) (length m - 1)) hq hm
 
   -- times a constant that is not 0
   pub scaled-size : (c : K.carrier) (p : Poly K.ring) (n : ℕ) → ¬ (c ≡ K.zero) → size K.ring p ≡ suc n → size K.ring ((polynomials K.ring).mul (monomial K.ring c 0) p) ≡ suc n

@@ -5,8 +5,8 @@ use Rattle.ff_poly.specs.Divisors.{IsGcd}
 use Rattle.ff_poly.proofs.divisors.common_divisor.Given as goal
 
 -- a greatest common divisor of the present two is one of the first two
-abbrev pub invariant-loop-rest : goal.invariant-loop-rest
-invariant-loop-rest g l =
+abbrev pub invariant-loop-divisor : goal.invariant-loop-divisor
+invariant-loop-divisor g l =
     let K = g.K.Ring.elements l.k in
     record {
       divisor : IsPoly K l.divisor;
@@ -14,5 +14,5 @@ invariant-loop-rest g l =
       same : (g : Poly K.ring) → IsGcd (polynomials K.ring) (poly_of K l.divisor) (poly_of K l.rest) g → IsGcd (polynomials K.ring) (poly_of K l.fn.a) (poly_of K l.fn.b) g;
     }
 
-abbrev pub decreases-loop-rest : goal.decreases-loop-rest
-decreases-loop-rest g l = length l.rest
+abbrev pub decreases-loop-divisor : goal.decreases-loop-divisor
+decreases-loop-divisor g l = length l.rest
