@@ -1,4 +1,5 @@
-use Rattle.std.proofs.Common.{◌≡◌, ℕ, zero, suc, ◌+◌, ◌-◌, ◌<◌, ◌≤◌, List, [], ◌∷◌, cond, length, map, get_or, refl, sym, ◌∙◌, ap, ap₂, arith}
+use Rattle.std.proofs.Common.{◌≡◌, ℕ, zero, suc, ◌+◌, ◌-◌, ◌<◌, ◌≤◌, List, [], ◌∷◌, cond, length, map, get_or, refl, sym, ◌∙◌, ap, ap₂, subst, arith}
+use Rattle.std.proofs.lemmas.List.{nil_from_length}
 use Rattle.ff_theory.specs.Ring.{RingOps, IsCommRing, IsTested, Elements}
 use Rattle.ff_theory.specs.Lawful.{Lawful}
 use Rattle.ff_theory.specs.Poly.{coeff, list_scale, Poly, poly, polynomials}
@@ -10,10 +11,11 @@ use Rattle.ff_theory.proofs.Division.{const_mul_at, top_nonzero, size-mul}
 use Rattle.ff_theory.proofs.PolyMap.{same_false}
 use Rattle.ff_poly.specs.Words.{poly_of, IsPoly}
 use Rattle.ff_poly.specs.Monomial.{raised, monomial}
-use Rattle.ff_poly.specs.Divisors.{leading}
+use Rattle.ff_poly.specs.Divisors.{leading, IsGcd}
 use Rattle.ff_poly.proofs.Words.{entry}
 use Rattle.ff_poly.proofs.Monomial.{monomial-mul}
-use Rattle.ff_poly.proofs.Product.{poly-coeff}
+use Rattle.ff_poly.proofs.Product.{poly-coeff, times_zero}
+use Rattle.ff_poly.proofs.Gcd.{gcd-unit}
 use Rattle.ff_poly.proofs.LongDivision.{poly-size, monomial-mul-monomial}
 
 module _ (R : RingOps) (laws : IsCommRing R) (tests : IsTested R) where
@@ -52,3 +54,25 @@ module _ {E : Type 0} (K : Elements E) (L : Lawful K) where
     pub led-leading : leading K r ≡ d
     led-leading = sym (poly-coeff K.ring L.laws L.tests (map K.value r) (length r - 1)) ∙ ap (λ (t : Poly K.ring). coeff K.ring t.coeffs (length r - 1)) e ∙ const_mul_at K.ring L.laws L.tests c (poly_of K p) (length r - 1)
         ∙ ap (K.mul c) (poly-coeff K.ring L.laws L.tests (map K.value p) (length r - 1) ∙ ap (λ n. coeff K.ring (map K.value p) (n - 1)) led-length) ∙ product
+
+    pub led-unit : (polynomials K.ring).mul (monomial K.ring (K.inverse c) 0) (monomial K.ring c 0) ≡ (polynomials K.ring).one
+    led-unit = monomial-mul-monomial K.ring L.laws L.tests 0 0 0 (K.inverse c) c refl ∙ ap (λ t. monomial K.ring t 0) (L.laws.mul_comm (K.inverse c) c ∙ L.finite.field.mul_inverse c factor)
+
+  module _ (p r : List E) (c d : K.carrier) (hp : IsPoly K p) (hr : IsPoly K r) (nd : ¬ (d ≡ K.zero)) (hc : c ≡ K.mul d (K.inverse (leading K p))) (e : poly_of K r ≡ (polynomials K.ring).mul (monomial K.ring c 0) (poly_of K p)) where
+    -- the multiple of 0 is 0
+    led-nil : length p ≡ 0 → poly_of K r ≡ poly_of K p
+    led-nil n = e ∙ ap (λ q. (polynomials K.ring).mul (monomial K.ring c 0) (poly_of K q)) (nil_from_length p n) ∙ sym (times_zero K.ring L.laws L.tests (monomial K.ring c 0)) ∙ ap (poly_of K) (sym (nil_from_length p n))
+
+    pub led-monic : 0 < length r → leading K r ≡ d
+    led-monic l = led-leading p r c d hp hr (go (length p) refl) nd hc e
+      where
+        go : (n : ℕ) → length p ≡ n → 0 < length p
+        go zero n = absurd (omega (arith, l, poly-size K.ring L.laws L.tests K.value r hr.canonical, poly-size K.ring L.laws L.tests K.value p hp.canonical, ap (size K.ring) (led-nil n), n))
+        go (suc m) n = omega arith
+
+    pub led-gcd : (a b : Poly K.ring) → IsGcd (polynomials K.ring) a b (poly_of K p) → IsGcd (polynomials K.ring) a b (poly_of K r)
+    led-gcd a b h = go (length p) refl
+      where
+        go : (n : ℕ) → length p ≡ n → IsGcd (polynomials K.ring) a b (poly_of K r)
+        go zero n = subst (IsGcd (polynomials K.ring) a b) (sym (led-nil n)) h
+        go (suc m) n = gcd-unit (polynomials K.ring) (polynomial_laws K.ring L.laws L.tests) (poly_of K p) (poly_of K r) (monomial K.ring c 0) (monomial K.ring (K.inverse c) 0) e (led-unit p r c d hp hr (omega arith) nd hc e) a b h
