@@ -1,5 +1,7 @@
-use Rattle.std.proofs.Common.{◌≡◌, ℕ, suc, ◌<◌, ◌≤◌, refl, sym, ◌∙◌, ap, ap₂, arith}
+use Rattle.std.proofs.Common.{◌≡◌, ℕ, List, suc, ◌<◌, ◌≤◌, ◌⊎◌, inl, inr, refl, sym, ◌∙◌, ap, ap₂, subst, arith}
+use Rattle.std.proofs.lemmas.Bool.{cases_lt}
 use Rattle.ff_theory.specs.Ring.{RingOps, IsCommRing}
+use Rattle.ff_theory.specs.Poly.{coeff}
 use Rattle.ff_theory.proofs.Solver.{◌⊕◌, ◌⊗◌, neg, nil, unit, ring1, ring2, ring3, ring4}
 use Rattle.ff_poly.specs.Divisors.{Divides, IsGcd, IsGcdOfAll}
 
@@ -33,5 +35,29 @@ module _ (R : RingOps) (laws : IsCommRing R) where
     pub gcd-unit : (a b : R.carrier) → IsGcd R a b g → IsGcd R a b h
     gcd-unit a b k = record { of_first = divisor a k.of_first; of_second = divisor b k.of_second; greatest = λ d m n. multiple d (k.greatest d m n) }
 
-    pub gcds-unit : (a : R.carrier) (f : ℕ → R.carrier) (n : ℕ) → IsGcdOfAll R a f n g → IsGcdOfAll R a f n h
-    gcds-unit a f n k = record { of_first = divisor a k.of_first; of_each = λ i l. divisor (f i) (k.of_each i l); greatest = λ d m n. multiple d (k.greatest d m n) }
+    pub gcds-unit : (a : R.carrier) (f : List R.carrier) (n : ℕ) → IsGcdOfAll R a f n g → IsGcdOfAll R a f n h
+    gcds-unit a f n k = record { of_first = divisor a k.of_first; of_each = λ i l. divisor (coeff R f i) (k.of_each i l); greatest = λ d m n. multiple d (k.greatest d m n) }
+
+  -- one after another
+  module _ (a : R.carrier) (f : List R.carrier) where
+    pub gcds-start : IsGcdOfAll R a f 0 a
+    gcds-start = record { of_first = (R.one, ring1 R laws (λ a. a) (λ a. unit ⊗ a) refl a); of_each = λ i l. absurd (omega arith); greatest = λ d m n. m }
+
+    pub gcds-step : (n m : ℕ) (g h : R.carrier) → m ≡ suc n → IsGcdOfAll R a f n g → IsGcd R g (coeff R f n) h → IsGcdOfAll R a f m h
+    gcds-step n m g h e k s = record {
+      of_first = divides_trans h g a s.of_first k.of_first;
+      of_each = λ i l. each i l (cases_lt i n);
+      greatest = λ d u v. s.greatest d (k.greatest d u (λ i l. v i (omega arith))) (v n (omega arith));
+    }
+      where
+        each : (i : ℕ) → i < m → (i < n) ⊎ (n ≤ i) → Divides R h (coeff R f i)
+        each i l (inl b) = divides_trans h g (coeff R f i) s.of_first (k.of_each i b)
+        each i l (inr b) = let q : n ≡ i = omega arith in subst (λ j. Divides R h (coeff R f j)) q s.of_second
+
+    -- a unit divides all that follow
+    pub gcds-stop : (n m : ℕ) (g w : R.carrier) → n ≤ m → R.mul w g ≡ R.one → IsGcdOfAll R a f n g → IsGcdOfAll R a f m g
+    gcds-stop n m g w l one k = record {
+      of_first = k.of_first;
+      of_each = λ i b. (R.mul (coeff R f i) w, sym (laws.mul_one (coeff R f i)) ∙ ap (R.mul (coeff R f i)) (sym one) ∙ sym (laws.mul_assoc (coeff R f i) w g));
+      greatest = λ d u v. k.greatest d u (λ i b. v i (omega arith));
+    }

@@ -1,0 +1,13 @@
+use Rattle.std.proofs.Common.{◌≡◌, map, take, All}
+use Rattle.ff_theory.specs.Poly.{polynomials}
+use Rattle.ff_poly.specs.Words.{poly_of, IsPoly}
+use Rattle.ff_poly.specs.Divisors.{polys_of}
+use Rattle.ff_poly.proofs.lowest.quotients.Given as goal
+
+abbrev pub invariant-loop-p : goal.invariant-loop-p
+invariant-loop-p g l =
+    let K = g.K.Ring.elements l.k in
+    record {
+      each : All (λ p. IsPoly K p) l.quotients.items;
+      value : map (λ q. (polynomials K.ring).mul (poly_of K q) (poly_of K l.b)) l.quotients.items ≡ polys_of K (take l.p-index l.list);
+    }
