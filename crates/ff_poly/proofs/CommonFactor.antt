@@ -1,23 +1,25 @@
-use Rattle.std.proofs.Common.{◌≡◌, ℕ, zero, suc, pred, ◌+◌, ◌-◌, ◌<◌, ◌≤◌, IsTrue, false, List, [], ◌∷◌, length, map, refl, sym, ◌∙◌, ap, ap₂, subst, arith}
+use Rattle.std.proofs.Common.{◌≡◌, ℕ, zero, suc, pred, ◌+◌, ◌-◌, ◌<◌, ◌≤◌, IsTrue, false, List, [], ◌∷◌, length, map, get_or, refl, sym, ◌∙◌, ap, ap₂, subst, arith}
 use Rattle.std.proofs.lemmas.Bool.{lt-ltb, eq-eqb}
-use Rattle.std.proofs.lemmas.List.{length-map}
+use Rattle.std.proofs.lemmas.List.{length-map, nil_from_length}
 use Rattle.ff_theory.specs.Ring.{RingOps, IsCommRing, Elements}
 use Rattle.ff_theory.specs.Lawful.{Field, Lawful, lawful_field}
 use Rattle.ff_theory.specs.Poly.{coeff, Poly, poly, polynomials}
-use Rattle.ff_theory.specs.Division.{size}
+use Rattle.ff_theory.specs.Division.{size, IsDivision}
 use Rattle.ff_theory.proofs.Solver.{◌⊗◌, unit, ring1, ring3, ring4, mul_zero, zero_mul}
 use Rattle.ff_theory.proofs.Poly.{polynomial_laws}
 use Rattle.ff_theory.proofs.Series.{mul_top}
-use Rattle.ff_theory.proofs.Division.{mul_at, zero_from, top_nonzero, size-mul}
+use Rattle.ff_theory.proofs.Division.{one_division, mul_at, zero_from, top_nonzero, size-mul}
 use Rattle.ff_theory.proofs.Gcd.{no_size}
 use Rattle.ff_theory.proofs.PolyMap.{zero_size, one_size, size_nonzero, polynomial_domain}
 use Rattle.ff_theory.proofs.LowestTerms.{cancel}
 use Rattle.ff_theory.proofs.Element.{IsLowest}
 use Rattle.ff_poly.specs.Words.{poly_of, IsPoly}
-use Rattle.ff_poly.specs.Divisors.{leading, Divides, polys_of, IsGcdOfAll}
+use Rattle.ff_poly.specs.Monomial.{monomial}
+use Rattle.ff_poly.specs.Divisors.{leading, Divides, polys_of, products_with, IsGcdOfAll}
 use Rattle.ff_poly.proofs.Product.{poly-coeff}
 use Rattle.ff_poly.proofs.LongDivision.{poly-size}
-use Rattle.ff_poly.proofs.Scaling.{lead-nonzero}
+use Rattle.ff_poly.proofs.Gcd.{gcds-unit}
+use Rattle.ff_poly.proofs.Scaling.{lead-nonzero, led-length, led-leading, led-unit}
 
 -- a list of products with g
 coeff-scaled : (R : RingOps) (laws : IsCommRing R) {A : Type 0} (f : A → R.carrier) (g : R.carrier) (xs : List A) (i : ℕ) → coeff R (map (λ x. R.mul (f x) g) xs) i ≡ R.mul (coeff R (map f xs) i) g
@@ -66,6 +68,49 @@ module _ {E : Type 0} (K : Elements E) (L : Lawful K) where
   abbrev F : Field
   F = lawful_field K L
 
+  -- the polynomial 1
+  pub one_poly : (p q : List E) (x : E) → q ≡ p → length q ≡ 1 → x ≡ get_or q 0 x → K.value x ≡ K.one → poly_of K p ≡ (polynomials K.ring).one
+  one_poly p q x e l h v = ap (poly_of K) (sym e) ∙ go q l h
+    where
+      go : (q : List E) → length q ≡ 1 → x ≡ get_or q 0 x → poly_of K q ≡ (polynomials K.ring).one
+      go [] l h = absurd (omega arith)
+      go (y ∷ []) l h = ap (λ t. poly K.ring (t ∷ [])) (ap K.value (sym h) ∙ v)
+      go (y ∷ z ∷ q) l h = absurd (omega arith)
+
+  -- the quotient by a divisor
+  pub exact_division : (a b q r : Poly K.ring) → IsDivision K.ring a b q r → Divides (polynomials K.ring) b a → (polynomials K.ring).mul q b ≡ a
+  exact_division a b q r d h = go (size K.ring b) refl
+    where
+      go : (k : ℕ) → size K.ring b ≡ k → (polynomials K.ring).mul q b ≡ a
+      go zero e = absurd (omega (arith, e, d.smaller))
+      go (suc n) e = ap (λ t. (polynomials K.ring).mul t b) (one_division K.ring L.laws L.tests K.inverse L.finite.field b n e a q r h.0 (polynomials K.ring).zero d (record {
+        sum = h.1 ∙ sym ((PL F).add_zero ((polynomials K.ring).mul h.0 b));
+        smaller = omega (arith, e, zero_size F);
+      })).0 ∙ sym h.1
+
+  -- a greatest common divisor of den and others, with the leading coefficient x of den
+  module _ (den p r : List E) (x : E) (hden : IsPoly K den) (hp : IsPoly K p) (hr : IsPoly K r) (some : 0 < length den) (hx : K.value x ≡ leading K den)
+      (e : poly_of K r ≡ (polynomials K.ring).mul (monomial K.ring (K.mul (K.value x) (K.inverse (leading K p))) 0) (poly_of K p)) (list : List (Poly K.ring)) (n : ℕ) (gcd : IsGcdOfAll (polynomials K.ring) (poly_of K den) list n (poly_of K p)) where
+    lead : ¬ (K.value x ≡ K.zero)
+    lead z = lead-nonzero K L den hden some (sym hx ∙ z)
+
+    divisor_some : 0 < length p
+    divisor_some = go (length p) refl
+      where
+        go : (k : ℕ) → length p ≡ k → 0 < length p
+        go zero z = absurd (omega (arith, some, poly-size K.ring L.laws L.tests K.value den hden.canonical, ap (size K.ring) (gcd.of_first.1 ∙ ap (λ q. (polynomials K.ring).mul gcd.of_first.0 (poly_of K q)) (nil_from_length p z) ∙ mul_zero (polynomials K.ring) (PL F) gcd.of_first.0), zero_size F))
+        go (suc k) z = omega arith
+
+    pub shared-some : 0 < length r
+    shared-some = omega (arith, divisor_some, led-length K L p r (K.mul (K.value x) (K.inverse (leading K p))) (K.value x) hp hr divisor_some lead refl e)
+
+    pub shared-leading : leading K r ≡ leading K den
+    shared-leading = led-leading K L p r (K.mul (K.value x) (K.inverse (leading K p))) (K.value x) hp hr divisor_some lead refl e ∙ hx
+
+    pub shared-gcd : IsGcdOfAll (polynomials K.ring) (poly_of K den) list n (poly_of K r)
+    shared-gcd = gcds-unit (polynomials K.ring) (PL F) (poly_of K p) (poly_of K r) (monomial K.ring (K.mul (K.value x) (K.inverse (leading K p))) 0) (monomial K.ring (K.inverse (K.mul (K.value x) (K.inverse (leading K p)))) 0) e
+        (led-unit K L p r (K.mul (K.value x) (K.inverse (leading K p))) (K.value x) hp hr divisor_some lead refl e) (poly_of K den) list n gcd
+
   leading-at : (p : List E) (n : ℕ) → IsPoly K p → size K.ring (poly_of K p) ≡ suc n → coeff K.ring (poly_of K p).coeffs n ≡ leading K p
   leading-at p n h e = poly-coeff K.ring L.laws L.tests (map K.value p) n ∙ ap (coeff K.ring (map K.value p)) (let k : n ≡ length p - 1 = omega (arith, e, poly-size K.ring L.laws L.tests K.value p h.canonical) in k)
 
@@ -73,7 +118,7 @@ module _ {E : Type 0} (K : Elements E) (L : Lawful K) where
   module _ (den low common : List E) (nums lows : List (List E)) (hden : IsPoly K den) (hlow : IsPoly K low) (hcommon : IsPoly K common)
       (lead : leading K common ≡ leading K den) (some : 0 < length den)
       (whole : (polynomials K.ring).mul (poly_of K low) (poly_of K common) ≡ poly_of K den)
-      (parts : map (λ q. (polynomials K.ring).mul (poly_of K q) (poly_of K common)) lows ≡ polys_of K nums)
+      (parts : products_with K (poly_of K common) lows ≡ polys_of K nums)
       (gcd : IsGcdOfAll (polynomials K.ring) (poly_of K den) (polys_of K nums) (length nums) (poly_of K common)) where
     P : IsCommRing (polynomials K.ring)
     P = PL F

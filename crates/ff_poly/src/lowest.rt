@@ -1,11 +1,11 @@
 // Fractions in lowest terms.
-ghost use Rattle.std.specs.Prelude.{◌≡◌, ℕ, ◌<◌, length, map, IfOk};
+ghost use Rattle.std.specs.Prelude.{◌≡◌, ℕ, ◌<◌, length, IfOk};
 ghost use Rattle.std.specs.List.{All};
 ghost use Rattle.ff_theory.specs.Lawful.{lawful_field};
 ghost use Rattle.ff_theory.specs.Poly.{coeff, polynomials};
 ghost use Rattle.ff_theory.proofs.Element.{IsLowest};
 ghost use Rattle.ff_poly.specs.Words.{poly_of, IsPoly};
-ghost use Rattle.ff_poly.specs.Divisors.{leading, Divides, polys_of, IsGcdOfAll};
+ghost use Rattle.ff_poly.specs.Divisors.{leading, Divides, polys_of, products_with, IsGcdOfAll};
 
 use crate::Poly;
 use crate::divisors::common_divisor;
@@ -70,7 +70,7 @@ fn quotients<E: Copy + Eq + Default, K: FiniteField<E = E>>(
     requires nonzero { 0 < length b.now }
     requires divisor { (i : ℕ) → i < length list.now → Divides (polynomials (K.elements k.now).ring) (poly_of (K.elements k.now) b.now) (coeff (polynomials (K.elements k.now).ring) (polys_of (K.elements k.now) list.now) i) }
     ensures each { IfOk result (λ r. All (λ p. IsPoly (K.elements k.now) p) r.items) }
-    ensures value { IfOk result (λ r. map (λ q. (polynomials (K.elements k.now).ring).mul (poly_of (K.elements k.now) q) (poly_of (K.elements k.now) b.now)) r.items ≡ polys_of (K.elements k.now) list.now) }
+    ensures value { IfOk result (λ r. products_with (K.elements k.now) (poly_of (K.elements k.now) b.now) r.items ≡ polys_of (K.elements k.now) list.now) }
 {
     let mut quotients = Vec::with_capacity(alloc, list.len())?;
     for p in list {
