@@ -159,3 +159,6 @@ module _ (R : RingOps) (laws : IsCommRing R) (tests : IsTested R) where
           ∙ ap₂ (λ q r. (polynomials R).add ((polynomials R).mul q (poly R (map f b))) r) (sym hq) (sym hr);
       smaller = let s : size R r ≤ length (take n row) = subst (λ (t : Poly R). size R t ≤ length (take n row)) (sym hr) (poly-size-le (take n row)) in omega (arith, s, poly-size b h, l, length-take-le n row k, ap length hd);
     }
+
+    pub division_lengths : (a b r : List E) (q : Poly R) → IsTrue (ends_in_nonzero R (map f b)) → IsTrue (ends_in_nonzero R (map f r)) → IsDivision R (poly R (map f a)) (poly R (map f b)) q (poly R (map f r)) → length r < length b
+    division_lengths a b r q hb hr d = omega (arith, poly-size b hb, poly-size r hr, d.smaller)

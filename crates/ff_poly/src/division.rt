@@ -36,7 +36,7 @@ impl<E: Copy + Eq + Default> Poly<E> {
 }
 
 /// Divides `row` by `b` in place, and returns where the quotient begins: the entries before it are the remainder.
-fn divide_row<E: Copy + Eq, K: FiniteField<E = E>>(k: &K, row: &mut [E], b: &[E]) -> usize
+pub fn divide_row<E: Copy + Eq, K: FiniteField<E = E>>(k: &K, row: &mut [E], b: &[E]) -> usize
     requires row { All (IsElement (K.elements k.now)) row.old }
     requires b { IsPoly (K.elements k.now) b.now }
     requires nonzero { 0 < length b.now }
