@@ -1,9 +1,9 @@
 use Rattle.std.proofs.Common.{◌≡◌, ℕ, zero, suc, ◌+◌, ◌-◌, ◌<◌, ◌≤◌, IsTrue, List, [], ◌∷◌, ◌++◌, length, map, get_or, set, take, drop, refl, sym, ◌∙◌, ap, ap₂, subst, arith}
 use Rattle.std.proofs.lemmas.List.{take_all, drop_all, length-map, length-take-le, length-drop}
 use Rattle.ff_theory.specs.Ring.{RingOps, IsCommRing, IsTested}
-use Rattle.ff_theory.specs.Poly.{coeff, ends_in_nonzero, trim, list_scale, Poly, poly, polynomials}
+use Rattle.ff_theory.specs.Poly.{coeff, ends_in_nonzero, list_scale, Poly, poly, polynomials}
 use Rattle.ff_theory.specs.Division.{size, IsDivision}
-use Rattle.ff_theory.proofs.Solver.{◌⊕◌, ◌⊗◌, neg, nil, unit, ring1, ring2, ring3, ring6, mul_zero, zero_add}
+use Rattle.ff_theory.proofs.Solver.{◌⊕◌, ◌⊗◌, neg, nil, ring1, ring2, ring3, ring6, mul_zero, zero_add}
 use Rattle.ff_theory.proofs.Poly.{trim_same, scale-coeff, polynomial_laws}
 use Rattle.ff_theory.proofs.Coeffs.{coeff-map, coeff-past, poly_ext, add_by_coeffs}
 use Rattle.ff_theory.proofs.Division.{size_le, top_nonzero}

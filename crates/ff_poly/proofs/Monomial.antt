@@ -1,8 +1,8 @@
-use Rattle.std.proofs.Common.{◌≡◌, ℕ, zero, suc, ◌+◌, ◌<◌, ◌≤◌, List, [], ◌∷◌, length, map, refl, sym, ◌∙◌, ap, arith}
+use Rattle.std.proofs.Common.{◌≡◌, ℕ, zero, suc, ◌+◌, ◌<◌, ◌≤◌, List, [], ◌∷◌, length, refl, sym, ◌∙◌, ap, arith}
 use mathlib.Core.Path.{fun_ext}
 use Rattle.ff_theory.specs.Ring.{RingOps, IsCommRing, IsTested}
 use Rattle.ff_theory.specs.Poly.{coeff, trim, list_scale, list_mul, poly, polynomials, poly_mul}
-use Rattle.ff_theory.proofs.Solver.{◌⊕◌, ◌⊗◌, nil, ring1, ring2, mul_zero}
+use Rattle.ff_theory.proofs.Solver.{◌⊕◌, ◌⊗◌, nil, ring1, ring2}
 use Rattle.ff_theory.proofs.Series.{series_mul, tail, zero_left}
 use Rattle.ff_theory.proofs.Poly.{trim-coeff, mul-coeff, scale-coeff}
 use Rattle.ff_theory.proofs.Coeffs.{poly_ext, add_by_coeffs}

@@ -6,7 +6,7 @@ use Rattle.ff_theory.proofs.Poly.{trim-coeff, neg-coeff}
 use Rattle.ff_theory.proofs.Coeffs.{coeff-past, poly_ext}
 
 module _ (R : RingOps) (laws : IsCommRing R) where
-  neg-zero : R.neg R.zero ≡ R.zero
+  pub neg-zero : R.neg R.zero ≡ R.zero
   neg-zero = ring1 R laws (λ a. neg nil) (λ a. nil) refl R.zero
 
   pub neg-past : {E : Type 0} (f : E → R.carrier) (p : List E) (i : ℕ) → length p ≤ i → coeff R (map f p) i ≡ R.neg (coeff R (map f p) i)

@@ -36,6 +36,17 @@ impl<E: Copy + Eq + Default> Poly<E> {
         }
     }
 
+    /// The polynomial 1. The only error is want of memory.
+    pub fn one<K: FiniteField<E = E>>(alloc: Global, k: &K) -> Result<Poly<E>, NoMemory>
+        ensures len { IfOk result (λ r. length r ≡ 1) }
+        ensures poly { IfOk result (λ r. IsPoly (K.elements k.now) r) }
+        ensures value { IfOk result (λ r. poly_of (K.elements k.now) r ≡ (polynomials (K.elements k.now).ring).one) }
+    {
+        let mut items = SmallVec::new(alloc);
+        items.push(k.one())?;
+        Ok(Poly { items })
+    }
+
     /// Whether it is the polynomial 0.
     pub fn is_zero(&self) -> bool
         ensures { result ≡ nat_eq (length self.now) 0 }
@@ -228,6 +239,24 @@ impl<E: Copy + Eq + Default> Poly<E> {
         ensures value { IfOk result (λ r. poly_of (K.elements k.now) r ≡ (polynomials (K.elements k.now).ring).mul (poly_of (K.elements k.now) self.now) (poly_of (K.elements k.now) b.now)) }
     {
         Poly::product(alloc, k, self.items.as_slice(), b.items.as_slice())
+    }
+
+    /// The product; a length past usize is want of memory, the only error.
+    pub fn checked_mul<K: FiniteField<E = E>>(
+        &self,
+        alloc: Global,
+        k: &K,
+        b: &Poly<E>,
+    ) -> Result<Poly<E>, NoMemory>
+        requires a { All (IsElement (K.elements k.now)) self.now }
+        requires b { All (IsElement (K.elements k.now)) b.now }
+        ensures poly { IfOk result (λ r. IsPoly (K.elements k.now) r) }
+        ensures value { IfOk result (λ r. poly_of (K.elements k.now) r ≡ (polynomials (K.elements k.now).ring).mul (poly_of (K.elements k.now) self.now) (poly_of (K.elements k.now) b.now)) }
+    {
+        if self.items.len().checked_add(b.items.len()).is_none() {
+            return Err(NoMemory);
+        }
+        self.mul(alloc, k, b)
     }
 
     /// The product with `x^i`. The only error is want of memory.

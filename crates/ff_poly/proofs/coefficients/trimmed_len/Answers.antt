@@ -1,4 +1,4 @@
-use Rattle.std.proofs.Common.{◌≡◌, ◌-◌, true, false, sym, ◌∙◌, ap, arith, get_or, map, take}
+use Rattle.std.proofs.Common.{◌≡◌, ◌-◌, true, false, sym, ◌∙◌, ap, arith, map, take}
 use Rattle.ff_poly.specs.Words.{poly_of}
 use Rattle.ff_theory.proofs.Coeffs.{kept_ends, kept_same, poly_ext}
 use Rattle.ff_poly.proofs.coefficients.trimmed_len.Goals as goal

@@ -1,4 +1,4 @@
-use Rattle.std.proofs.Common.{rules, arith, ◌≡◌, ◌<◌, ◌≤◌, ◌+◌, ◌-◌, suc, length, take, drop, set, ◌++◌, refl, sym, ap, ◌∙◌, subst, All}
+use Rattle.std.proofs.Common.{arith, ◌≡◌, ◌<◌, ◌+◌, ◌-◌, length, drop, ◌++◌, refl, ap, ◌∙◌}
 use Rattle.std.proofs.lemmas.List.{length-set, length-take-le, length-append, length-drop}
 use Rattle.std.proofs.lemmas.List.Elements.{All-set, All-append, All-drop}
 use Rattle.ff_theory.specs.Ring.{IsElement}

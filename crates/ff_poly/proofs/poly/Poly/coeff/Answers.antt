@@ -1,4 +1,4 @@
-use Rattle.std.proofs.Common.{sym, ◌∙◌, ap, arith, ◌≡◌, length, ◌<◌, ◌≤◌, get_or}
+use Rattle.std.proofs.Common.{sym, ◌∙◌, ap, arith, ◌≡◌, length, ◌<◌, get_or}
 use Rattle.ff_theory.proofs.Coeffs.{coeff-map, coeff-past}
 use Rattle.ff_poly.proofs.poly.Poly.coeff.Goals as goal
 

@@ -1,4 +1,4 @@
-use Rattle.std.proofs.Common.{◌≡◌, List, [], sym, ◌∙◌, ap, length, rules, arith}
+use Rattle.std.proofs.Common.{◌≡◌, [], sym, ◌∙◌, ap, length}
 use Rattle.std.proofs.lemmas.List.{nil_from_length}
 use Rattle.std.proofs.lemmas.Bool.{eqb-true}
 use Rattle.ff_theory.specs.Poly.{polynomials}

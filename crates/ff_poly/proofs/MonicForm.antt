@@ -1,0 +1,164 @@
+use Rattle.std.proofs.Common.{◌≡◌, ℕ, zero, suc, ◌+◌, ◌-◌, ◌*◌, ◌<◌, ◌≤◌, ◌⊎◌, inl, inr, max, Bool, true, false, not, IsTrue, List, [], ◌∷◌, length, map, get_or, refl, sym, ◌∙◌, ap, ap₂, arith, All}
+use Rattle.std.proofs.lemmas.Bool.{cases_lt}
+use Rattle.std.proofs.lemmas.List.{length-map}
+use Rattle.ff_theory.specs.Ring.{RingOps, IsCommRing, IsTested, IsField, Elements, power}
+use Rattle.ff_theory.specs.Poly.{coeff, ends_in_nonzero, Poly, poly, polynomials}
+use Rattle.ff_theory.specs.Division.{size}
+use Rattle.ff_theory.proofs.Solver.{zero_mul}
+use Rattle.ff_theory.proofs.Poly.{trim_same, polynomial_laws, polynomial_tests}
+use Rattle.ff_theory.proofs.Coeffs.{coeff-past, poly_ext}
+use Rattle.ff_theory.proofs.Division.{size-mul}
+use Rattle.ff_theory.proofs.Gcd.{no_size}
+use Rattle.ff_theory.proofs.PolyMap.{same_false}
+use Rattle.ff_poly.specs.Words.{poly_of, plane_of, IsPoly, IsPlane, x_size}
+use Rattle.ff_poly.specs.Monic.{monic_rows, monic_form, rows_of}
+use Rattle.ff_poly.proofs.LongDivision.{poly-size}
+use Rattle.ff_poly.proofs.Rows.{row-value}
+
+-- the greatest of f 0, f 1, .. up to the place before n
+abbrev pub greatest : ℕ → (ℕ → ℕ) → ℕ
+greatest zero f = 0
+greatest (suc n) f = max (greatest n f) (f n)
+
+greatest-front : (n : ℕ) (f : ℕ → ℕ) → greatest (suc n) f ≡ max (f zero) (greatest n (λ i. f (suc i)))
+greatest-front zero f = omega arith
+greatest-front (suc n) f = omega (arith, greatest-front n f)
+
+greatest-ext : (n : ℕ) (f g : ℕ → ℕ) → ((i : ℕ) → i < n → f i ≡ g i) → greatest n f ≡ greatest n g
+greatest-ext zero f g h = refl
+greatest-ext (suc n) f g h = ap₂ max (greatest-ext n f g (λ i l. h i (omega arith))) (h n (omega arith))
+
+pub greatest-bound : (n : ℕ) (f : ℕ → ℕ) (i : ℕ) → i < n → f i ≤ greatest n f
+greatest-bound zero f i l = absurd (omega arith)
+greatest-bound (suc n) f i l = go (cases_lt i n) (λ m. greatest-bound n f i m)
+  where
+    go : (i < n) ⊎ (n ≤ i) → (i < n → f i ≤ greatest n f) → f i ≤ max (greatest n f) (f n)
+    go (inl m) h = omega (arith, h m)
+    go (inr m) h = let e : i ≡ n = omega arith in omega (arith, ap f e)
+
+-- degrees and sizes
+greatest-suc : (n : ℕ) (d s : ℕ → ℕ) → ((i : ℕ) → i < n → d i + 1 ≡ max (s i) 1) → greatest n d + 1 ≡ max (greatest n s) 1
+greatest-suc zero d s h = omega arith
+greatest-suc (suc n) d s h = omega (arith, greatest-suc n d s (λ i l. h i (omega arith)), h n (omega arith))
+
+module _ (R : RingOps) where
+  pub monic-length : (t : R.carrier) (p : List R.carrier) → length (monic_rows R t p) ≡ length p
+  monic-length t [] = refl
+  monic-length t (a ∷ []) = refl
+  monic-length t (a ∷ b ∷ p) = ap suc (monic-length t (b ∷ p))
+
+  monic-below : (t : R.carrier) (p : List R.carrier) (n i : ℕ) → length p ≡ suc n → i < n → coeff R (monic_rows R t p) i ≡ R.mul (coeff R p i) (power R t (n - 1 - i))
+  monic-below t [] n i e l = absurd (omega arith)
+  monic-below t (a ∷ []) n i e l = absurd (omega arith)
+  monic-below t (a ∷ b ∷ p) n zero e l = ap (λ m. R.mul a (power R t m)) (let k : length p ≡ n - 1 - 0 = omega arith in k)
+  monic-below t (a ∷ b ∷ p) n (suc i) e l = monic-below t (b ∷ p) (n - 1) i (omega arith) (omega arith) ∙ ap (λ m. R.mul (coeff R (b ∷ p) i) (power R t m)) (let k : n - 1 - 1 - i ≡ n - 1 - suc i = omega arith in k)
+
+  monic-last : (t : R.carrier) (p : List R.carrier) (n : ℕ) → length p ≡ suc n → coeff R (monic_rows R t p) n ≡ R.one
+  monic-last t [] n e = absurd (omega arith)
+  monic-last t (a ∷ []) zero e = refl
+  monic-last t (a ∷ []) (suc n) e = absurd (omega arith)
+  monic-last t (a ∷ b ∷ p) zero e = absurd (omega arith)
+  monic-last t (a ∷ b ∷ p) (suc n) e = monic-last t (b ∷ p) n (omega arith)
+
+  monic-canonical : (t : R.carrier) (p : List R.carrier) → R.same R.one R.zero ≡ false → 0 < length p → IsTrue (ends_in_nonzero R (monic_rows R t p))
+  monic-canonical t [] h l = absurd (omega arith)
+  monic-canonical t (a ∷ []) h l = ap not h
+  monic-canonical t (a ∷ b ∷ p) h l = cons (R.mul a (power R t (length p))) (monic_rows R t (b ∷ p)) (monic-canonical t (b ∷ p) h (omega arith)) (let e : length (monic_rows R t (b ∷ p)) ≡ suc (length p) = monic-length t (b ∷ p) in omega (arith, e))
+    where
+      cons : (x : R.carrier) (q : List R.carrier) → IsTrue (ends_in_nonzero R q) → 0 < length q → IsTrue (ends_in_nonzero R (x ∷ q))
+      cons x [] k m = absurd (omega arith)
+      cons x (y ∷ q) k m = k
+
+module _ (R : RingOps) (laws : IsCommRing R) (tests : IsTested R) where
+  past : (p : List R.carrier) (i : ℕ) → length p ≤ i → coeff R p i ≡ R.zero
+  past [] i h = refl
+  past (c ∷ p) zero h = absurd (omega arith)
+  past (c ∷ p) (suc i) h = past p i (omega arith)
+
+  -- rows that a loop computed
+  pub monic_by_loop : {A : Type 0} (f : A → R.carrier) (p q : List A) (t : R.carrier) (n : ℕ) → length p ≡ suc n → length q ≡ suc n → IsTrue (ends_in_nonzero R (map f p)) → t ≡ coeff R (map f p) n
+      → ((i : ℕ) → i < n → coeff R (map f q) i ≡ R.mul (coeff R (map f p) i) (power R t (n - 1 - i))) → coeff R (map f q) n ≡ R.one
+      → poly R (map f q) ≡ monic_form R (poly R (map f p))
+  unfolding poly monic_form
+  monic_by_loop f p q t n lp lq h ht below last =
+      poly_ext R laws tests (map f q) (monic_rows R t (map f p)) (λ i. all i (cases_lt i n))
+      ∙ ap (λ t. poly R (monic_rows R t (map f p))) (ht ∙ ap (coeff R (map f p)) (let e : n ≡ length (map f p) - 1 = omega (arith, size) in e))
+      ∙ ap (λ l. poly R (monic_rows R (coeff R l (length l - 1)) l)) (sym (trim_same R laws tests (map f p) h))
+    where
+      size : length (map f p) ≡ length p
+      size = length-map p f
+
+      rows : length (monic_rows R t (map f p)) ≡ length (map f p)
+      rows = monic-length R t (map f p)
+
+      all : (i : ℕ) → (i < n) ⊎ (n ≤ i) → coeff R (map f q) i ≡ coeff R (monic_rows R t (map f p)) i
+      all i (inl l) = below i l ∙ sym (monic-below R t (map f p) n i (size ∙ lp) l)
+      all i (inr l) = go (cases_lt n i)
+        where
+          go : (n < i) ⊎ (i ≤ n) → coeff R (map f q) i ≡ coeff R (monic_rows R t (map f p)) i
+          go (inl m) = coeff-past R f q i (omega arith) ∙ sym (past (monic_rows R t (map f p)) i (omega (arith, rows, size)))
+          go (inr m) = let e : i ≡ n = omega arith in ap (coeff R (map f q)) e ∙ last ∙ sym (monic-last R t (map f p) n (size ∙ lp)) ∙ ap (coeff R (monic_rows R t (map f p))) (sym e)
+
+  -- the coefficients of a monic form
+  pub monic_form-coeffs : (p : List R.carrier) → IsTrue (ends_in_nonzero R p) → R.same R.one R.zero ≡ false → 0 < length p → (monic_form R (poly R p)).coeffs ≡ monic_rows R (coeff R p (length p - 1)) p
+  unfolding poly monic_form
+  monic_form-coeffs p h one l = ap (λ l. (poly R (monic_rows R (coeff R l (length l - 1)) l)).coeffs) (trim_same R laws tests p h) ∙ trim_same R laws tests (monic_rows R (coeff R p (length p - 1)) p) (monic-canonical R (coeff R p (length p - 1)) p one l)
+
+x_size-greatest : (R : RingOps) (L : List (Poly R)) → x_size (map (λ p. p.coeffs) L) ≡ greatest (length L) (λ i. size R (coeff (polynomials R) L i))
+x_size-greatest R [] = refl
+x_size-greatest R (p ∷ L) = ap (max (size R p)) (x_size-greatest R L) ∙ sym (greatest-front (length L) (λ i. size R (coeff (polynomials R) (p ∷ L) i)))
+
+module _ (R : RingOps) (laws : IsCommRing R) (tests : IsTested R) (inverse : R.carrier → R.carrier) (field : IsField R inverse) where
+  PL : IsCommRing (polynomials R)
+  PL = polynomial_laws R laws tests
+
+  one-size : size R (polynomials R).one ≡ 1
+  one-size = poly-size R laws tests (λ c. c) (R.one ∷ []) (ap not (same_false R tests R.one R.zero field.one_not_zero))
+
+  zero-size : size R (polynomials R).zero ≡ 0
+  unfolding poly
+  zero-size = refl
+
+  -- the size of a power
+  pub power-size : (t : Poly R) (m e : ℕ) → size R t ≡ suc m → size R (power (polynomials R) t e) ≡ suc (e * m)
+  power-size t m zero h = one-size ∙ (let k : 1 ≡ suc (0 * m) = omega arith in k)
+  power-size t m (suc e) h = size-mul R laws tests inverse field t (power (polynomials R) t e) m (e * m) h (power-size t m e h) ∙ (let k : suc (m + e * m) ≡ suc (suc e * m) = omega (arith, suc-mul e m) in k)
+    where
+      suc-mul : (e m : ℕ) → suc e * m ≡ m + e * m
+      suc-mul e m = omega arith
+
+  -- the degree of a row of the monic form
+  row-degree : (a t : Poly R) (m e s d : ℕ) → size R t ≡ suc m → size R a ≡ s → (s ≡ 0 → d ≡ 0) → (0 < s → d + 1 ≡ s + e * m) → d + 1 ≡ max (size R ((polynomials R).mul a (power (polynomials R) t e))) 1
+  row-degree a t m e zero d ht ha hz hp =
+      let none : size R ((polynomials R).mul a (power (polynomials R) t e)) ≡ 0 = ap (size R) (ap (λ a. (polynomials R).mul a (power (polynomials R) t e)) (no_size R laws tests inverse field a ha) ∙ zero_mul (polynomials R) PL (power (polynomials R) t e)) ∙ zero-size in
+      omega (arith, none, hz refl)
+  row-degree a t m e (suc s) d ht ha hz hp =
+      let n = size-mul R laws tests inverse field a (power (polynomials R) t e) s (e * m) ha (power-size t m e ht) in
+      omega (arith, n, hp (omega arith))
+
+  -- the degree of the monic form, from the degrees of its rows
+  pub monic-degree : (p : List (Poly R)) (n m : ℕ) (d : ℕ → ℕ) → IsTrue (ends_in_nonzero (polynomials R) p) → length p ≡ suc n → size R (coeff (polynomials R) p n) ≡ suc m
+      → ((i : ℕ) → i < n → size R (coeff (polynomials R) p i) ≡ 0 → d i ≡ 0) → ((i : ℕ) → i < n → 0 < size R (coeff (polynomials R) p i) → d i + 1 ≡ size R (coeff (polynomials R) p i) + (n - 1 - i) * m)
+      → greatest n d + 1 ≡ x_size (rows_of R (monic_form (polynomials R) (poly (polynomials R) p)))
+  monic-degree p n m d h lp ht hz hp =
+      greatest-suc n d (λ i. size R (coeff P M i)) rows ∙ ap (max (greatest n (λ i. size R (coeff P M i)))) (sym last)
+      ∙ ap (λ k. greatest k (λ i. size R (coeff P M i))) (sym (monic-length P t p ∙ lp)) ∙ sym (x_size-greatest R M)
+      ∙ ap (λ l. x_size (map (λ (p : Poly R). p.coeffs) l)) (ap (λ k. monic_rows P (coeff P p k) p) (let e : n ≡ length p - 1 = omega arith in e) ∙ sym (monic_form-coeffs P PL (polynomial_tests R laws tests) p h one (omega arith)))
+    where
+      P : RingOps
+      P = polynomials R
+
+      t : Poly R
+      t = coeff P p n
+
+      M : List (Poly R)
+      M = monic_rows P t p
+
+      one : (polynomials R).same (polynomials R).one (polynomials R).zero ≡ false
+      one = same_false P (polynomial_tests R laws tests) (polynomials R).one (polynomials R).zero (λ e. let z : 1 ≡ 0 = sym one-size ∙ ap (size R) e ∙ zero-size in absurd (omega arith))
+
+      last : size R (coeff P M n) ≡ 1
+      last = ap (size R) (monic-last P t p n lp) ∙ one-size
+
+      rows : (i : ℕ) → i < n → d i + 1 ≡ max (size R (coeff P M i)) 1
+      rows i l = row-degree (coeff P p i) t m (n - 1 - i) (size R (coeff P p i)) (d i) ht refl (hz i l) (hp i l) ∙ ap (λ (a : Poly R). max (size R a) 1) (sym (monic-below P t p n i lp l))
