@@ -1,0 +1,52 @@
+// Constants and powers.
+ghost use Rattle.std.specs.Prelude.{◌≡◌, ◌+◌, ◌-◌, ◌*◌, ◌^◌, ◌<◌, length, IfOk};
+ghost use Rattle.std.specs.List.{All};
+ghost use Rattle.ff_theory.specs.Ring.{IsElement, power};
+ghost use Rattle.ff_theory.specs.Poly.{polynomials};
+ghost use Rattle.ff_poly.specs.Words.{poly_of, IsPoly};
+ghost use Rattle.ff_poly.specs.Monomial.{monomial};
+
+use crate::Poly;
+use ff_alg::{FiniteField, NoMemory};
+use smallvec::SmallVec;
+use std::alloc::Global;
+
+impl<E: Copy + Eq + Default> Poly<E> {
+    /// The constant polynomial `c`. The only error is want of memory.
+    pub fn constant<K: FiniteField<E = E>>(
+        alloc: Global,
+        k: &K,
+        c: E,
+    ) -> Result<Poly<E>, NoMemory>
+        requires { IsElement (K.elements k.now) c }
+        ensures poly { IfOk result (λ r. IsPoly (K.elements k.now) r) }
+        ensures value { IfOk result (λ r. poly_of (K.elements k.now) r ≡ monomial (K.elements k.now).ring ((K.elements k.now).value c) 0) }
+    {
+        let mut items = SmallVec::new(alloc);
+        items.push(c)?;
+        Ok(Poly::trimmed(k, items))
+    }
+
+    /// The power, by squaring. The only error is want of memory.
+    pub fn power<K: FiniteField<E = E>>(
+        &self,
+        alloc: Global,
+        k: &K,
+        n: u32,
+    ) -> Result<Poly<E>, NoMemory>
+        requires a { All (IsElement (K.elements k.now)) self.now }
+        requires room { (length self.now - 1) * n + 1 < 2 ^ 64 }
+        ensures poly { IfOk result (λ r. IsPoly (K.elements k.now) r) }
+        ensures value { IfOk result (λ r. poly_of (K.elements k.now) r ≡ power (polynomials (K.elements k.now).ring) (poly_of (K.elements k.now) self.now) n) }
+    {
+        if n == 0 {
+            return Poly::constant(alloc, k, k.one());
+        }
+        let half = self.power(alloc, k, n / 2)?;
+        let square = Poly::product(alloc, k, half.coeffs(), half.coeffs())?;
+        if n % 2 == 0 {
+            return Ok(square);
+        }
+        Poly::product(alloc, k, self.coeffs(), square.coeffs())
+    }
+}
