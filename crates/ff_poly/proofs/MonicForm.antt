@@ -1,4 +1,4 @@
-use Rattle.std.proofs.Common.{◌≡◌, ℕ, zero, suc, ◌+◌, ◌-◌, ◌*◌, ◌<◌, ◌≤◌, ◌⊎◌, inl, inr, max, Bool, true, false, not, cond, nat_eq, IsTrue, List, [], ◌∷◌, length, map, get_or, refl, sym, ◌∙◌, ap, ap₂, arith, All}
+use Rattle.std.proofs.Common.{◌≡◌, ℕ, zero, suc, ◌+◌, ◌-◌, ◌*◌, ◌<◌, ◌≤◌, ◌⊎◌, inl, inr, max, false, not, cond, nat_eq, IsTrue, List, [], ◌∷◌, ◌++◌, length, map, get_or, refl, sym, ◌∙◌, ap, ap₂, arith}
 use Rattle.std.proofs.lemmas.Bool.{cases_lt, ne_eqb}
 use Rattle.std.proofs.lemmas.List.{length-map}
 use Rattle.ff_theory.specs.Ring.{RingOps, IsCommRing, IsTested, IsField, Elements, power}
@@ -53,7 +53,23 @@ greatest-suc : (n : ℕ) (d s : ℕ → ℕ) → ((i : ℕ) → i < n → d i + 
 greatest-suc zero d s h = omega arith
 greatest-suc (suc n) d s h = omega (arith, greatest-suc n d s (λ i l. h i (omega arith)), h n (omega arith))
 
+pub positive : (n : ℕ) → nat_eq n 0 ≡ false → 0 < n
+positive zero e = cc
+positive (suc n) e = omega arith
+
 module _ (R : RingOps) where
+  -- a list with one entry pushed
+  pub pushed-below : {E : Type 0} (f : E → R.carrier) (xs : List E) (y : E) (i : ℕ) → i < length xs → coeff R (map f (xs ++ y ∷ [])) i ≡ coeff R (map f xs) i
+  pushed-below f [] y i l = absurd (omega arith)
+  pushed-below f (x ∷ xs) y zero l = refl
+  pushed-below f (x ∷ xs) y (suc i) l = pushed-below f xs y i (omega arith)
+
+  pub pushed-at : {E : Type 0} (f : E → R.carrier) (xs : List E) (y : E) (i : ℕ) → i ≡ length xs → coeff R (map f (xs ++ y ∷ [])) i ≡ f y
+  pushed-at f [] y zero e = refl
+  pushed-at f [] y (suc i) e = absurd (omega arith)
+  pushed-at f (x ∷ xs) y zero e = absurd (omega arith)
+  pushed-at f (x ∷ xs) y (suc i) e = pushed-at f xs y i (omega arith)
+
   pub monic-length : (t : R.carrier) (p : List R.carrier) → length (monic_rows R t p) ≡ length p
   monic-length t [] = refl
   monic-length t (a ∷ []) = refl
@@ -196,3 +212,7 @@ module _ {E : Type 0} (K : Elements E) (laws : IsCommRing K.ring) (tests : IsTes
       let same : (length rows - 2 - i) * (length (get_or rows (length rows - 1) []) - 1) ≡ (n - 1 - i) * m =
       ap₂ (λ a b. a * b) (let e : length rows - 2 - i ≡ n - 1 - i = omega arith in e) (ap (λ k. length (get_or rows k []) - 1) (let e : length rows - 1 ≡ n = omega arith in e) ∙ ap (λ p. length p - 1) (sym hl) ∙ sym hm) in
       omega (arith, bound, exact, same, hd)
+
+  -- the length of a power
+  pub power-length : (p r : List E) (e : ℕ) → IsPoly K p → IsPoly K r → 0 < length p → poly_of K r ≡ power (polynomials K.ring) (poly_of K p) e → length r ≡ suc (e * (length p - 1))
+  power-length p r e hp hr pos h = sym (poly-size K.ring laws tests K.value r hr.canonical) ∙ ap (size K.ring) h ∙ power-size K.ring laws tests K.inverse field (poly_of K p) (length p - 1) e (poly-size K.ring laws tests K.value p hp.canonical ∙ (let n : length p ≡ suc (length p - 1) = omega arith in n))

@@ -13,11 +13,7 @@ use std::alloc::Global;
 
 impl<E: Copy + Eq + Default> Poly<E> {
     /// The constant polynomial `c`. The only error is want of memory.
-    pub fn constant<K: FiniteField<E = E>>(
-        alloc: Global,
-        k: &K,
-        c: E,
-    ) -> Result<Poly<E>, NoMemory>
+    pub fn constant<K: FiniteField<E = E>>(alloc: Global, k: &K, c: E) -> Result<Poly<E>, NoMemory>
         requires { IsElement (K.elements k.now) c }
         ensures poly { IfOk result (λ r. IsPoly (K.elements k.now) r) }
         ensures value { IfOk result (λ r. poly_of (K.elements k.now) r ≡ monomial (K.elements k.now).ring ((K.elements k.now).value c) 0) }

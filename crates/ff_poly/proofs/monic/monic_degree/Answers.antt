@@ -1,6 +1,5 @@
-use Rattle.std.proofs.Common.{◌≡◌, ◌+◌, ◌-◌, ◌*◌, ◌<◌, ◌≤◌, [], length, get_or, suc, max, cond, nat_eq, refl, sym, ◌∙◌, ap, ap₂, arith}
+use Rattle.std.proofs.Common.{◌≡◌, ◌+◌, ◌-◌, ◌*◌, [], length, get_or, suc, max, cond, nat_eq, refl, ◌∙◌, ap, ap₂, arith}
 use Rattle.std.proofs.lemmas.List.{get_or_default}
-use Rattle.ff_poly.specs.Words.{x_size}
 use Rattle.ff_poly.proofs.Rows.{item-length, ord_max-max}
 use Rattle.ff_poly.proofs.PseudoDivision.{last_row}
 use Rattle.ff_poly.proofs.MonicForm.{greatest, row_degree_of, rows_degree, rows_bound}
