@@ -9,10 +9,10 @@ ghost use Rattle.ff_poly.specs.Divisors.{leading, Divides, polys_of, products_wi
 
 use crate::Poly;
 use crate::divisors::common_divisor;
-use ff_alg::{FiniteField, NoMemory, same};
+use ff_alg::{Coefficient, FiniteField, NoMemory, same};
 use std::alloc::Global;
 
-impl<E: Copy + Eq + Default> Poly<E> {
+impl<E: Coefficient> Poly<E> {
     /// The fractions `nums[i] / den` in lowest terms: their common denominator, which is monic, and their numerators.
     /// No polynomial of positive degree divides these all. The only error is want of memory.
     pub fn lowest<K: FiniteField<E = E>>(
@@ -59,7 +59,7 @@ impl<E: Copy + Eq + Default> Poly<E> {
 }
 
 /// The quotients by a divisor of all.
-fn quotients<E: Copy + Eq + Default, K: FiniteField<E = E>>(
+fn quotients<E: Coefficient, K: FiniteField<E = E>>(
     alloc: Global,
     k: &K,
     list: &[Poly<E>],
@@ -80,7 +80,7 @@ fn quotients<E: Copy + Eq + Default, K: FiniteField<E = E>>(
 }
 
 /// A greatest common divisor of a polynomial that is not 0 and of those of a list.
-fn divisor_of_all<E: Copy + Eq + Default, K: FiniteField<E = E>>(
+fn divisor_of_all<E: Coefficient, K: FiniteField<E = E>>(
     alloc: Global,
     k: &K,
     den: &Poly<E>,
@@ -102,7 +102,7 @@ fn divisor_of_all<E: Copy + Eq + Default, K: FiniteField<E = E>>(
 }
 
 /// The greatest common divisor of `den`, which is not 0, and `nums` that has the leading coefficient of `den`.
-fn shared_divisor<E: Copy + Eq + Default, K: FiniteField<E = E>>(
+fn shared_divisor<E: Coefficient, K: FiniteField<E = E>>(
     alloc: Global,
     k: &K,
     den: &Poly<E>,

@@ -7,7 +7,7 @@ ghost use Rattle.ff_poly.specs.Words.{poly_of, IsPoly, plane_of, IsPlane, x_size
 ghost use Rattle.ff_poly.specs.Monic.{monic_form, rows_of};
 
 use crate::{Plane, Poly};
-use ff_alg::{FiniteField, NoMemory};
+use ff_alg::{Coefficient, FiniteField, NoMemory};
 use std::alloc::Global;
 
 /// The greatest degree in x that a monic form may have.
@@ -32,7 +32,7 @@ impl From<NoMemory> for FormFault {
     }
 }
 
-impl<E: Copy + Eq + Default> Plane<E> {
+impl<E: Coefficient> Plane<E> {
     /// The monic form: with n the degree in y and `a_i` the rows, row i is `a_i * a_n^(n-1-i)` below row n, which is 1.
     /// `Wide` comes exactly where its degree in x is greater than `MAX_MONIC_DEGREE`; the only other error is want of memory.
     pub fn monic_form<K: FiniteField<E = E>>(
@@ -58,7 +58,7 @@ impl<E: Copy + Eq + Default> Plane<E> {
 }
 
 /// The degree in x of the monic form.
-fn monic_degree<E: Copy + Eq + Default, K: FiniteField<E = E>>(k: &K, rows: &[Poly<E>]) -> usize
+fn monic_degree<E: Coefficient, K: FiniteField<E = E>>(k: &K, rows: &[Poly<E>]) -> usize
     requires plane { IsPlane (K.elements k.now) rows.now }
     requires has_y { 1 < length rows.now }
     requires height { length rows.now ≤ 2 ^ 31 }
@@ -91,7 +91,7 @@ fn row_degree(len: usize, exponent: usize, lead: usize) -> usize
 }
 
 /// The rows of the monic form, where its degree in x is at most `MAX_MONIC_DEGREE`.
-fn monic_rows<E: Copy + Eq + Default, K: FiniteField<E = E>>(
+fn monic_rows<E: Coefficient, K: FiniteField<E = E>>(
     alloc: Global,
     k: &K,
     rows: &[Poly<E>],
@@ -113,7 +113,7 @@ fn monic_rows<E: Copy + Eq + Default, K: FiniteField<E = E>>(
 }
 
 /// The product of a row and a power of the leading row.
-fn monic_row<E: Copy + Eq + Default, K: FiniteField<E = E>>(
+fn monic_row<E: Coefficient, K: FiniteField<E = E>>(
     alloc: Global,
     k: &K,
     row: &Poly<E>,

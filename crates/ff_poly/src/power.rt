@@ -7,11 +7,11 @@ ghost use Rattle.ff_poly.specs.Words.{poly_of, IsPoly};
 ghost use Rattle.ff_poly.specs.Monomial.{monomial};
 
 use crate::Poly;
-use ff_alg::{FiniteField, NoMemory};
+use ff_alg::{Coefficient, FiniteField, NoMemory};
 use smallvec::SmallVec;
 use std::alloc::Global;
 
-impl<E: Copy + Eq + Default> Poly<E> {
+impl<E: Coefficient> Poly<E> {
     /// The constant polynomial `c`. The only error is want of memory.
     pub fn constant<K: FiniteField<E = E>>(alloc: Global, k: &K, c: E) -> Result<Poly<E>, NoMemory>
         requires { IsElement (K.elements k.now) c }

@@ -9,10 +9,10 @@ ghost use Rattle.ff_poly.specs.Monomial.{monomial};
 use crate::coefficients::add_product;
 use crate::plane::row;
 use crate::{Plane, Poly};
-use ff_alg::{FiniteField, NoMemory};
+use ff_alg::{Coefficient, FiniteField, NoMemory};
 use std::alloc::Global;
 
-impl<E: Copy + Eq + Default> Plane<E> {
+impl<E: Coefficient> Plane<E> {
     /// A pseudo-remainder by `f`: a polynomial c in x that is not 0, and a polynomial r with fewer rows than `f`,
     /// such that `c * self = q * f + r` for some q. The only error is want of memory.
     pub fn reduce<K: FiniteField<E = E>>(
@@ -42,7 +42,7 @@ impl<E: Copy + Eq + Default> Plane<E> {
 }
 
 /// One step: c is not 0, and `c * a = q * f + r` for some q, where r has fewer rows than `a`.
-fn step<E: Copy + Eq + Default, K: FiniteField<E = E>>(
+fn step<E: Coefficient, K: FiniteField<E = E>>(
     alloc: Global,
     k: &K,
     a: &[Poly<E>],
@@ -64,7 +64,7 @@ fn step<E: Copy + Eq + Default, K: FiniteField<E = E>>(
 }
 
 /// Polynomials c, which is not 0, and t with `c * top + t * lead = 0`; c is 1 where `lead` is a constant.
-fn multipliers<E: Copy + Eq + Default, K: FiniteField<E = E>>(
+fn multipliers<E: Coefficient, K: FiniteField<E = E>>(
     alloc: Global,
     k: &K,
     top: &Poly<E>,
@@ -87,7 +87,7 @@ fn multipliers<E: Copy + Eq + Default, K: FiniteField<E = E>>(
 }
 
 /// The rows of `c * a + t * y^at * f` below the last row of `a`, which is cancelled; `at` is the difference of the lengths.
-fn lower_rows<E: Copy + Eq + Default, K: FiniteField<E = E>>(
+fn lower_rows<E: Coefficient, K: FiniteField<E = E>>(
     alloc: Global,
     k: &K,
     c: &Poly<E>,
@@ -116,7 +116,7 @@ fn lower_rows<E: Copy + Eq + Default, K: FiniteField<E = E>>(
 }
 
 /// The coefficients of row `i` of `y^at` times the rows, none where there is no row.
-fn row_above<E: Copy + Eq + Default>(rows: &[Poly<E>], at: usize, i: usize) -> &[E]
+fn row_above<E: Coefficient>(rows: &[Poly<E>], at: usize, i: usize) -> &[E]
     ensures below { i < at → result.now ≡ [] }
     ensures above { at ≤ i → result.now ≡ get_or rows.now (i - at) [] }
 {
@@ -158,7 +158,7 @@ fn add_combination<E: Copy + Eq, K: FiniteField<E = E>>(
 }
 
 /// The sum `c * a + t * b`.
-fn combination<E: Copy + Eq + Default, K: FiniteField<E = E>>(
+fn combination<E: Coefficient, K: FiniteField<E = E>>(
     alloc: Global,
     k: &K,
     c: &[E],
