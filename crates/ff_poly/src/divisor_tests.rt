@@ -21,43 +21,75 @@ fn poly(alloc: Global, k: &Prime, c: &[u64]) -> Result<Poly<u32>, Fail>
     Ok(Poly::from_coeffs(alloc, k, &items)?)
 }
 
+/// Whether a polynomial has the coefficients `want`, by rising power.
+fn is(k: &Prime, p: &Poly<u32>, want: &[u64]) -> bool
+    requires { IsPoly (prime_elements k.now.number) p.now }
+{
+    let c = p.coeffs();
+    if c.len() != want.len() {
+        return false;
+    }
+    for i in 0..c.len() {
+        if k.index(c[i]) != want[i] {
+            return false;
+        }
+    }
+    true
+}
+
 #[test]
-fn quotients_modulo_3(rt: HostRuntime) -> Result<(), Fail> {
-    let alloc = rt.alloc();
+fn quotient_and_remainder(rt: HostRuntime) -> Result<(), Fail> {
     let k = Prime::of(3).ok_or("3 is a prime of the table")?;
-    let a = poly(alloc, &k, &[2, 0, 1])?;
-    let b = poly(alloc, &k, &[1, 1])?;
-    let want = poly(alloc, &k, &[2, 1])?;
+    let a = poly(rt.alloc(), &k, &[2, 0, 1])?;
+    let b = poly(rt.alloc(), &k, &[1, 1])?;
     assert!(rt; !b.is_zero());
-    let (quotient, rest) = a.divide(alloc, &k, &b)?;
-    assert!(rt; quotient.same(&k, &want));
-    assert!(rt; rest.is_zero());
-    assert!(rt; want.remainder(alloc, &k, &b)?.same(&k, &Poly::one(alloc, &k)?));
-    assert!(rt; a.gcd(alloc, &k, &b)?.same(&k, &b));
+    let (quotient, rest) = a.divide(rt.alloc(), &k, &b)?;
+    assert!(rt; is(&k, &quotient, &[2, 1]));
+    assert!(rt; is(&k, &rest, &[]));
     Ok(())
 }
 
 #[test]
-fn powers_modulo_3(rt: HostRuntime) -> Result<(), Fail> {
-    let alloc = rt.alloc();
+fn remainder_alone(rt: HostRuntime) -> Result<(), Fail> {
     let k = Prime::of(3).ok_or("3 is a prime of the table")?;
-    let a = poly(alloc, &k, &[1, 1])?;
+    let a = poly(rt.alloc(), &k, &[0, 0, 1])?;
+    let b = poly(rt.alloc(), &k, &[1, 1])?;
+    assert!(rt; !b.is_zero());
+    let rest = a.remainder(rt.alloc(), &k, &b)?;
+    assert!(rt; is(&k, &rest, &[1]));
+    Ok(())
+}
+
+#[test]
+fn greatest_common_divisor(rt: HostRuntime) -> Result<(), Fail> {
+    let k = Prime::of(3).ok_or("3 is a prime of the table")?;
+    let a = poly(rt.alloc(), &k, &[2, 0, 1])?;
+    let b = poly(rt.alloc(), &k, &[2, 2])?;
+    let divisor = a.gcd(rt.alloc(), &k, &b)?;
+    assert!(rt; is(&k, &divisor, &[1, 1]));
+    Ok(())
+}
+
+#[test]
+fn monic_and_cubed(rt: HostRuntime) -> Result<(), Fail> {
+    let k = Prime::of(3).ok_or("3 is a prime of the table")?;
+    let a = poly(rt.alloc(), &k, &[2, 2])?.monic(rt.alloc(), &k)?;
+    assert!(rt; is(&k, &a, &[1, 1]));
     assert!(rt; a.coeffs().len() < 10);
-    assert!(rt; a.power(alloc, &k, 3)?.same(&k, &poly(alloc, &k, &[1, 0, 0, 1])?));
+    let cube = a.power(rt.alloc(), &k, 3)?;
+    assert!(rt; is(&k, &cube, &[1, 0, 0, 1]));
     Ok(())
 }
 
 #[test]
-fn lowest_terms_modulo_3(rt: HostRuntime) -> Result<(), Fail> {
-    let alloc = rt.alloc();
+fn lowest_terms(rt: HostRuntime) -> Result<(), Fail> {
     let k = Prime::of(3).ok_or("3 is a prime of the table")?;
-    let den = poly(alloc, &k, &[0, 2])?;
-    let mut nums = Vec::new(alloc);
-    nums.push(poly(alloc, &k, &[0, 1])?)?;
+    let den = poly(rt.alloc(), &k, &[0, 2])?;
     assert!(rt; !den.is_zero());
-    let (low, lows) = Poly::lowest(alloc, &k, &den, &nums)?;
-    assert!(rt; low.same(&k, &Poly::one(alloc, &k)?));
-    assert!(rt; lows.len() == 1 && lows[0].same(&k, &poly(alloc, &k, &[2])?));
-    assert!(rt; den.monic(alloc, &k)?.same(&k, &nums[0]));
+    let nums = [poly(rt.alloc(), &k, &[0, 1])?];
+    let (low, lows) = Poly::lowest(rt.alloc(), &k, &den, &nums)?;
+    assert!(rt; is(&k, &low, &[1]));
+    assert_eq!(rt; lows.len(), 1);
+    assert!(rt; is(&k, &lows[0], &[2]));
     Ok(())
 }
