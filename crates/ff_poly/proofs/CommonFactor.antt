@@ -148,8 +148,11 @@ module _ {E : Type 0} (K : Elements E) (L : Lawful K) where
 
     -- what divides all of them times the divisor divides the divisor
     only_units : (d : Poly K.ring) → Divides (polynomials K.ring) d (poly_of K low) → ((i : ℕ) → i < length nums → Divides (polynomials K.ring) d (coeff (polynomials K.ring) (polys_of K lows) i)) → Divides (polynomials K.ring) d (polynomials K.ring).one
-    only_units d hd hn = (w.0, cancel (polynomial_domain F) (polynomials K.ring).one ((polynomials K.ring).mul w.0 d) (poly_of K common) (size_nonzero F (poly_of K common) common_size.0 common_size.1)
-        (ring1 (polynomials K.ring) P (λ g. unit ⊗ g) (λ g. g) refl (poly_of K common) ∙ w.1 ∙ sym (P.mul_assoc w.0 d (poly_of K common))))
+    only_units d hd hn = (
+      w.0,
+      cancel (polynomial_domain F) (polynomials K.ring).one ((polynomials K.ring).mul w.0 d) (poly_of K common) (size_nonzero F (poly_of K common) common_size.0 common_size.1)
+          (ring1 (polynomials K.ring) P (λ g. unit ⊗ g) (λ g. g) refl (poly_of K common) ∙ w.1 ∙ sym (P.mul_assoc w.0 d (poly_of K common))),
+    )
       where
         times : (a b : Poly K.ring) → (polynomials K.ring).mul a (poly_of K common) ≡ b → Divides (polynomials K.ring) d a → Divides (polynomials K.ring) ((polynomials K.ring).mul d (poly_of K common)) b
         times a b e h = (h.0, sym e ∙ ap (λ t. (polynomials K.ring).mul t (poly_of K common)) h.1 ∙ P.mul_assoc h.0 d (poly_of K common))

@@ -17,8 +17,11 @@ module _ (R : RingOps) (laws : IsCommRing R) where
   gcd-step a b q r g e h = record {
     of_first = (R.add (R.mul q h.of_first.0) h.of_second.0, e ∙ ap₂ (λ b r. R.add (R.mul q b) r) h.of_first.1 h.of_second.1 ∙ ring4 R laws (λ q s t g. q ⊗ (s ⊗ g) ⊕ t ⊗ g) (λ q s t g. (q ⊗ s ⊕ t) ⊗ g) refl q h.of_first.0 h.of_second.0 g);
     of_second = h.of_first;
-    greatest = λ d u v. h.greatest d v (R.add u.0 (R.neg (R.mul q v.0)), ring3 R laws (λ q b r. r) (λ q b r. (q ⊗ b ⊕ r) ⊕ neg (q ⊗ b)) refl q b r ∙ ap (λ t. R.add t (R.neg (R.mul q b))) (sym e)
-        ∙ ap₂ (λ a b. R.add a (R.neg (R.mul q b))) u.1 v.1 ∙ ring4 R laws (λ q u v d. u ⊗ d ⊕ neg (q ⊗ (v ⊗ d))) (λ q u v d. (u ⊕ neg (q ⊗ v)) ⊗ d) refl q u.0 v.0 d);
+    greatest = λ d u v. h.greatest d v (
+      R.add u.0 (R.neg (R.mul q v.0)),
+      ring3 R laws (λ q b r. r) (λ q b r. (q ⊗ b ⊕ r) ⊕ neg (q ⊗ b)) refl q b r ∙ ap (λ t. R.add t (R.neg (R.mul q b))) (sym e)
+          ∙ ap₂ (λ a b. R.add a (R.neg (R.mul q b))) u.1 v.1 ∙ ring4 R laws (λ q u v d. u ⊗ d ⊕ neg (q ⊗ (v ⊗ d))) (λ q u v d. (u ⊕ neg (q ⊗ v)) ⊗ d) refl q u.0 v.0 d,
+    );
   }
 
   -- a greatest common divisor times a unit

@@ -10,7 +10,7 @@ use ff_alg::{FiniteField, NoMemory};
 use std::alloc::Global;
 
 impl<E: Copy + Eq + Default> Poly<E> {
-    /// The power, by squaring. The only error is want of memory.
+    /// The power, by squaring; its length, the degree times `n` and one, is within usize. The only error is want of memory.
     pub fn power<K: FiniteField<E = E>>(
         &self,
         alloc: Global,

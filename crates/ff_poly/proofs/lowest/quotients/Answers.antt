@@ -12,8 +12,7 @@ quotient-requires g c =
     let K = g.K.Ring.elements c.args.k.now in
     let i = c.loop-p.p-index in
     let p = c.p-item.result in
-    let item : coeff (polynomials K.ring) (polys_of K c.args.list.now) i ≡ poly_of K p = coeff-map (polynomials K.ring) (λ p. poly_of K p) c.args.list.now i p c.loop-p-test.true ∙ ap (poly_of K) (sym c.p-item.is) in
-    (
+    let item : coeff (polynomials K.ring) (polys_of K c.args.list.now) i ≡ poly_of K p = coeff-map (polynomials K.ring) (λ p. poly_of K p) c.args.list.now i p c.loop-p-test.true ∙ ap (poly_of K) (sym c.p-item.is) in (
       search rules,
       (subst (λ (p : List g.row.E.Denot). IsPoly K p) (sym c.p-item.is) (c.requires.list i p c.loop-p-test.true), (c.requires.b, (c.requires.nonzero, subst (λ (a : Poly K.ring). Divides (polynomials K.ring) (poly_of K c.args.b.now) a) item (c.requires.divisor i c.loop-p-test.true)))),
     )
