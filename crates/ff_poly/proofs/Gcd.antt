@@ -2,7 +2,7 @@ use Rattle.std.proofs.Common.{◌≡◌, ℕ, List, suc, ◌<◌, ◌≤◌, ◌
 use Rattle.std.proofs.lemmas.Bool.{cases_lt}
 use Rattle.ff_theory.specs.Ring.{RingOps, IsCommRing}
 use Rattle.ff_theory.specs.Poly.{coeff}
-use Rattle.ff_theory.proofs.Solver.{◌⊕◌, ◌⊗◌, neg, nil, unit, ring1, ring2, ring3, ring4}
+use Rattle.ff_theory.proofs.Solver.{◌⊕◌, ◌⊗◌, neg, nil, unit, ring1, ring3, ring4}
 use Rattle.ff_poly.specs.Divisors.{Divides, IsGcd, IsGcdOfAll}
 
 module _ (R : RingOps) (laws : IsCommRing R) where

@@ -1,5 +1,5 @@
-use Rattle.std.proofs.Common.{◌≡◌, ℕ, zero, suc, ◌+◌, ◌-◌, ◌*◌, ◌<◌, ◌≤◌, ◌⊎◌, inl, inr, max, Bool, true, false, not, IsTrue, List, [], ◌∷◌, length, map, get_or, refl, sym, ◌∙◌, ap, ap₂, arith, All}
-use Rattle.std.proofs.lemmas.Bool.{cases_lt}
+use Rattle.std.proofs.Common.{◌≡◌, ℕ, zero, suc, ◌+◌, ◌-◌, ◌*◌, ◌<◌, ◌≤◌, ◌⊎◌, inl, inr, max, false, not, cond, nat_eq, IsTrue, List, [], ◌∷◌, ◌++◌, length, map, get_or, refl, sym, ◌∙◌, ap, ap₂, arith}
+use Rattle.std.proofs.lemmas.Bool.{cases_lt, ne_eqb}
 use Rattle.std.proofs.lemmas.List.{length-map}
 use Rattle.ff_theory.specs.Ring.{RingOps, IsCommRing, IsTested, IsField, Elements, power}
 use Rattle.ff_theory.specs.Poly.{coeff, ends_in_nonzero, Poly, poly, polynomials}
@@ -36,12 +36,40 @@ greatest-bound (suc n) f i l = go (cases_lt i n) (λ m. greatest-bound n f i m)
     go (inl m) h = omega (arith, h m)
     go (inr m) h = let e : i ≡ n = omega arith in omega (arith, ap f e)
 
+-- the degree of row i of the monic form, as the lengths of the rows tell it
+abbrev pub row_degree_of : {E : Type 0} → List (List E) → ℕ → ℕ → ℕ → ℕ
+row_degree_of rows n m i = cond (nat_eq (length (get_or rows i [])) 0) 0 (length (get_or rows i []) - 1 + (n - 1 - i) * m)
+
+degree-none : (l y : ℕ) → l ≡ 0 → cond (nat_eq l 0) 0 (l - 1 + y) ≡ 0
+degree-none zero y e = refl
+degree-none (suc l) y e = absurd (omega arith)
+
+degree-some : (l y : ℕ) → 0 < l → cond (nat_eq l 0) 0 (l - 1 + y) + 1 ≡ l + y
+degree-some zero y h = absurd (omega arith)
+degree-some (suc l) y h = ap (λ b. cond b 0 (suc l - 1 + y) + 1) (ne_eqb (suc l) 0 (λ e. absurd (omega arith))) ∙ (let k : suc l - 1 + y + 1 ≡ suc l + y = omega arith in k)
+
 -- degrees and sizes
 greatest-suc : (n : ℕ) (d s : ℕ → ℕ) → ((i : ℕ) → i < n → d i + 1 ≡ max (s i) 1) → greatest n d + 1 ≡ max (greatest n s) 1
 greatest-suc zero d s h = omega arith
 greatest-suc (suc n) d s h = omega (arith, greatest-suc n d s (λ i l. h i (omega arith)), h n (omega arith))
 
+pub positive : (n : ℕ) → nat_eq n 0 ≡ false → 0 < n
+positive zero e = cc
+positive (suc n) e = omega arith
+
 module _ (R : RingOps) where
+  -- a list with one entry pushed
+  pub pushed-below : {E : Type 0} (f : E → R.carrier) (xs : List E) (y : E) (i : ℕ) → i < length xs → coeff R (map f (xs ++ y ∷ [])) i ≡ coeff R (map f xs) i
+  pushed-below f [] y i l = absurd (omega arith)
+  pushed-below f (x ∷ xs) y zero l = refl
+  pushed-below f (x ∷ xs) y (suc i) l = pushed-below f xs y i (omega arith)
+
+  pub pushed-at : {E : Type 0} (f : E → R.carrier) (xs : List E) (y : E) (i : ℕ) → i ≡ length xs → coeff R (map f (xs ++ y ∷ [])) i ≡ f y
+  pushed-at f [] y zero e = refl
+  pushed-at f [] y (suc i) e = absurd (omega arith)
+  pushed-at f (x ∷ xs) y zero e = absurd (omega arith)
+  pushed-at f (x ∷ xs) y (suc i) e = pushed-at f xs y i (omega arith)
+
   pub monic-length : (t : R.carrier) (p : List R.carrier) → length (monic_rows R t p) ≡ length p
   monic-length t [] = refl
   monic-length t (a ∷ []) = refl
@@ -162,3 +190,29 @@ module _ (R : RingOps) (laws : IsCommRing R) (tests : IsTested R) (inverse : R.c
 
       rows : (i : ℕ) → i < n → d i + 1 ≡ max (size R (coeff P M i)) 1
       rows i l = row-degree (coeff P p i) t m (n - 1 - i) (size R (coeff P p i)) (d i) ht refl (hz i l) (hp i l) ∙ ap (λ (a : Poly R). max (size R a) 1) (sym (monic-below P t p n i lp l))
+
+module _ {E : Type 0} (K : Elements E) (laws : IsCommRing K.ring) (tests : IsTested K.ring) (field : IsField K.ring K.inverse) where
+  row-size : (rows : List (List E)) (i : ℕ) → IsPlane K rows → i < length rows → size K.ring (coeff (polynomials K.ring) (map (λ p. poly_of K p) rows) i) ≡ length (get_or rows i [])
+  row-size rows i h l = ap (size K.ring) (sym (row-value K rows i)) ∙ poly-size K.ring laws tests K.value (get_or rows i []) (h.each i [] l).canonical
+
+  -- the degree that the code counts
+  pub rows_degree : (rows : List (List E)) (n m d : ℕ) (lead : List E) → IsPlane K rows → length rows ≡ suc n → 0 < length lead → lead ≡ get_or rows n [] → m ≡ length lead - 1
+      → d ≡ greatest n (row_degree_of rows n m) → d + 1 ≡ x_size (rows_of K.ring (monic_form (polynomials K.ring) (plane_of K rows)))
+  rows_degree rows n m d lead h ln pos hl hm hd =
+      ap (λ d. d + 1) hd ∙ monic-degree K.ring laws tests K.inverse field (map (λ p. poly_of K p) rows) n m (row_degree_of rows n m) h.canonical (length-map rows (λ p. poly_of K p) ∙ ln)
+      (row-size rows n h (omega arith) ∙ sym (ap length hl) ∙ (let e : length lead ≡ suc m = omega arith in e))
+      (λ i l z. degree-none (length (get_or rows i [])) ((n - 1 - i) * m) (sym (row-size rows i h (omega arith)) ∙ z))
+      (λ i l z. degree-some (length (get_or rows i [])) ((n - 1 - i) * m) (omega (arith, row-size rows i h (omega arith), z)) ∙ ap (λ s. s + (n - 1 - i) * m) (sym (row-size rows i h (omega arith))))
+
+  pub rows_bound : (rows : List (List E)) (n m d : ℕ) (lead : List E) → length rows ≡ suc n → lead ≡ get_or rows n [] → m ≡ length lead - 1 → d ≡ greatest n (row_degree_of rows n m)
+      → (i : ℕ) → i + 1 < length rows → 0 < length (get_or rows i []) → length (get_or rows i []) + (length rows - 2 - i) * (length (get_or rows (length rows - 1) []) - 1) ≤ d + 1
+  rows_bound rows n m d lead ln hl hm hd i l pos =
+      let bound : row_degree_of rows n m i ≤ greatest n (row_degree_of rows n m) = greatest-bound n (row_degree_of rows n m) i (omega arith) in
+      let exact : row_degree_of rows n m i + 1 ≡ length (get_or rows i []) + (n - 1 - i) * m = degree-some (length (get_or rows i [])) ((n - 1 - i) * m) pos in
+      let same : (length rows - 2 - i) * (length (get_or rows (length rows - 1) []) - 1) ≡ (n - 1 - i) * m =
+      ap₂ (λ a b. a * b) (let e : length rows - 2 - i ≡ n - 1 - i = omega arith in e) (ap (λ k. length (get_or rows k []) - 1) (let e : length rows - 1 ≡ n = omega arith in e) ∙ ap (λ p. length p - 1) (sym hl) ∙ sym hm) in
+      omega (arith, bound, exact, same, hd)
+
+  -- the length of a power
+  pub power-length : (p r : List E) (e : ℕ) → IsPoly K p → IsPoly K r → 0 < length p → poly_of K r ≡ power (polynomials K.ring) (poly_of K p) e → length r ≡ suc (e * (length p - 1))
+  power-length p r e hp hr pos h = sym (poly-size K.ring laws tests K.value r hr.canonical) ∙ ap (size K.ring) h ∙ power-size K.ring laws tests K.inverse field (poly_of K p) (length p - 1) e (poly-size K.ring laws tests K.value p hp.canonical ∙ (let n : length p ≡ suc (length p - 1) = omega arith in n))

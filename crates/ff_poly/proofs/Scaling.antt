@@ -4,13 +4,13 @@ use Rattle.ff_theory.specs.Ring.{RingOps, IsCommRing, IsTested, Elements}
 use Rattle.ff_theory.specs.Lawful.{Lawful}
 use Rattle.ff_theory.specs.Poly.{coeff, list_scale, Poly, poly, polynomials}
 use Rattle.ff_theory.specs.Division.{size}
-use Rattle.ff_theory.proofs.Solver.{◌⊗◌, unit, ring3, mul_zero, zero_mul}
+use Rattle.ff_theory.proofs.Solver.{◌⊗◌, ring3, mul_zero, zero_mul}
 use Rattle.ff_theory.proofs.Poly.{scale-coeff, polynomial_laws}
 use Rattle.ff_theory.proofs.Coeffs.{coeff-past, poly_ext}
 use Rattle.ff_theory.proofs.Division.{const_mul_at, top_nonzero, size-mul}
 use Rattle.ff_theory.proofs.PolyMap.{same_false}
 use Rattle.ff_poly.specs.Words.{poly_of, IsPoly}
-use Rattle.ff_poly.specs.Monomial.{raised, monomial}
+use Rattle.ff_poly.specs.Monomial.{monomial}
 use Rattle.ff_poly.specs.Divisors.{leading, IsGcd}
 use Rattle.ff_poly.proofs.Words.{entry}
 use Rattle.ff_poly.proofs.Monomial.{monomial-mul}

@@ -1,4 +1,4 @@
-use Rattle.std.proofs.Common.{◌≡◌, ◌+◌, ◌<◌, List, length, get_or, sym, ◌∙◌, ap, subst, arith}
+use Rattle.std.proofs.Common.{◌≡◌, ◌+◌, List, length, sym, ◌∙◌, ap, subst, arith}
 use Rattle.ff_theory.specs.Lawful.{lawful_field}
 use Rattle.ff_theory.specs.Poly.{coeff, Poly, polynomials}
 use Rattle.ff_theory.proofs.Poly.{polynomial_laws}

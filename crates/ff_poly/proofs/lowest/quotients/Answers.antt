@@ -1,4 +1,4 @@
-use Rattle.std.proofs.Common.{rules, arith, ◌≡◌, ◌+◌, ◌<◌, List, length, take, get_or, sym, ◌∙◌, ap, subst, All}
+use Rattle.std.proofs.Common.{rules, ◌≡◌, List, sym, ◌∙◌, ap, subst, All}
 use Rattle.std.proofs.lemmas.List.Elements.{All-push}
 use Rattle.ff_theory.specs.Poly.{coeff, Poly, polynomials}
 use Rattle.ff_theory.proofs.Coeffs.{coeff-map}

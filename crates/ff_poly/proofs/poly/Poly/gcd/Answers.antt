@@ -1,4 +1,4 @@
-use Rattle.std.proofs.Common.{◌≡◌, refl, sym, ◌∙◌, ap, subst, List}
+use Rattle.std.proofs.Common.{refl, sym, ◌∙◌, subst, List}
 use Rattle.ff_theory.specs.Poly.{polynomials}
 use Rattle.ff_poly.specs.Words.{poly_of}
 use Rattle.ff_poly.specs.Divisors.{leading, IsGcd}

@@ -1,10 +1,9 @@
-use Rattle.std.proofs.Common.{arith, ◌≡◌, ◌-◌, List, [], length, map, get_or, sym, ◌∙◌, ap}
+use Rattle.std.proofs.Common.{arith, ◌≡◌, [], length, sym, ◌∙◌, ap}
 use Rattle.std.proofs.lemmas.List.{nil_from_length}
 use Rattle.ff_theory.specs.Poly.{polynomials}
 use Rattle.ff_poly.specs.Words.{poly_of}
 use Rattle.ff_poly.specs.Monomial.{monomial}
 use Rattle.ff_poly.specs.Divisors.{leading}
-use Rattle.ff_poly.proofs.Words.{entry}
 use Rattle.ff_poly.proofs.Product.{times_zero}
 use Rattle.ff_poly.proofs.Scaling.{lead-nonzero, lead-entry}
 use Rattle.ff_poly.proofs.poly.Poly.led_by.Goals as goal

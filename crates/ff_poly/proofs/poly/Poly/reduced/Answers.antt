@@ -1,4 +1,4 @@
-use Rattle.std.proofs.Common.{rules, arith, ◌≡◌, ◌<◌, ◌≤◌, length, take, drop, refl, sym, ◌∙◌, ap}
+use Rattle.std.proofs.Common.{arith, length, take, drop, refl, ◌∙◌, ap}
 use Rattle.ff_theory.specs.Poly.{Poly}
 use Rattle.ff_theory.specs.Division.{IsDivision}
 use Rattle.ff_poly.specs.Words.{poly_of}
