@@ -8,11 +8,11 @@ ghost use Rattle.ff_poly.specs.Words.{poly_of, IsPoly};
 
 use crate::Poly;
 use crate::coefficients::add_scaled;
-use ff_alg::{FiniteField, NoMemory};
+use ff_alg::{Coefficient, FiniteField, NoMemory};
 use smallvec::SmallVec;
 use std::alloc::Global;
 
-impl<E: Copy + Eq + Default> Poly<E> {
+impl<E: Coefficient> Poly<E> {
     /// The quotient and the remainder by `b`, which is not 0: schoolbook division, in place on one row.
     /// The remainder has fewer coefficients than `b`. The only error is want of memory.
     pub fn divide<K: FiniteField<E = E>>(

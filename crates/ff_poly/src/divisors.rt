@@ -10,10 +10,10 @@ ghost use Rattle.ff_poly.specs.Divisors.{leading, IsGcd};
 
 use crate::Poly;
 use crate::division::divide_row;
-use ff_alg::{FiniteField, NoMemory};
+use ff_alg::{Coefficient, FiniteField, NoMemory};
 use std::alloc::Global;
 
-impl<E: Copy + Eq + Default> Poly<E> {
+impl<E: Coefficient> Poly<E> {
     /// The remainder by `b`, which is not 0; the list is changed in place.
     pub(crate) fn reduced<K: FiniteField<E = E>>(self, k: &K, b: &Poly<E>) -> Poly<E>
         requires a { All (IsElement (K.elements k.now)) self }
@@ -114,7 +114,7 @@ fn scale<E: Copy + Eq, K: FiniteField<E = E>>(k: &K, list: &mut [E], c: E)
 }
 
 /// A greatest common divisor by Euclid's algorithm, whatever its leading coefficient.
-pub fn common_divisor<E: Copy + Eq + Default, K: FiniteField<E = E>>(
+pub fn common_divisor<E: Coefficient, K: FiniteField<E = E>>(
     k: &K,
     a: Poly<E>,
     b: Poly<E>,

@@ -9,10 +9,10 @@ ghost use Rattle.ff_poly.specs.Divisors.{leading, Divides, polys_of, products_wi
 
 use crate::Poly;
 use crate::divisors::common_divisor;
-use ff_alg::{FiniteField, NoMemory, same};
+use ff_alg::{Coefficient, FiniteField, NoMemory, same};
 use std::alloc::Global;
 
-impl<E: Copy + Eq + Default> Poly<E> {
+impl<E: Coefficient> Poly<E> {
     /// The fractions `nums[i] / den`, where `den` is not 0, in lowest terms: their common denominator, which is monic,
     /// and their numerators, as many as there were. No polynomial of positive degree divides the denominator and all
     /// numerators. The only error is want of memory.
@@ -60,7 +60,7 @@ impl<E: Copy + Eq + Default> Poly<E> {
 }
 
 /// The quotients by a divisor of all, one for each.
-fn quotients<E: Copy + Eq + Default, K: FiniteField<E = E>>(
+fn quotients<E: Coefficient, K: FiniteField<E = E>>(
     alloc: Global,
     k: &K,
     list: &[Poly<E>],
@@ -81,7 +81,7 @@ fn quotients<E: Copy + Eq + Default, K: FiniteField<E = E>>(
 }
 
 /// A greatest common divisor of a polynomial and of those of a list; nothing is read once it is a constant.
-fn divisor_of_all<E: Copy + Eq + Default, K: FiniteField<E = E>>(
+fn divisor_of_all<E: Coefficient, K: FiniteField<E = E>>(
     alloc: Global,
     k: &K,
     den: &Poly<E>,
@@ -103,7 +103,7 @@ fn divisor_of_all<E: Copy + Eq + Default, K: FiniteField<E = E>>(
 }
 
 /// The greatest common divisor of `den`, which is not 0, and `nums` that has the leading coefficient of `den`.
-fn shared_divisor<E: Copy + Eq + Default, K: FiniteField<E = E>>(
+fn shared_divisor<E: Coefficient, K: FiniteField<E = E>>(
     alloc: Global,
     k: &K,
     den: &Poly<E>,

@@ -7,7 +7,7 @@ ghost use Rattle.ff_poly.specs.Words.{poly_of, IsPoly};
 ghost use Rattle.ff_poly.specs.Monomial.{variable};
 
 use crate::coefficients::{add_product, add_to, negate, trimmed_len};
-use ff_alg::{FiniteField, NoMemory};
+use ff_alg::{Coefficient, FiniteField, NoMemory};
 use smallvec::SmallVec;
 use std::alloc::Global;
 use std::marker::Model;
@@ -26,7 +26,7 @@ impl<E> Model for Poly<E> {
     ghost view = { λ p. p.items.items };
 }
 
-impl<E: Copy + Eq + Default> Poly<E> {
+impl<E: Coefficient> Poly<E> {
     /// The polynomial 0.
     pub fn zero(alloc: Global) -> Poly<E>
         ensures { result ≡ [] }

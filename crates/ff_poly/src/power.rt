@@ -6,10 +6,10 @@ ghost use Rattle.ff_theory.specs.Poly.{polynomials};
 ghost use Rattle.ff_poly.specs.Words.{poly_of, IsPoly};
 
 use crate::Poly;
-use ff_alg::{FiniteField, NoMemory};
+use ff_alg::{Coefficient, FiniteField, NoMemory};
 use std::alloc::Global;
 
-impl<E: Copy + Eq + Default> Poly<E> {
+impl<E: Coefficient> Poly<E> {
     /// The power, by squaring; its length, the degree times `n` and one, is within usize. The only error is want of memory.
     pub fn power<K: FiniteField<E = E>>(
         &self,
