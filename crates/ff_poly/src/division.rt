@@ -13,7 +13,8 @@ use smallvec::SmallVec;
 use std::alloc::Global;
 
 impl<E: Coefficient> Poly<E> {
-    /// The quotient and the remainder, which has fewer coefficients than `b`. The only error is want of memory.
+    /// The quotient and the remainder by `b`, which is not 0: schoolbook division, in place on one row.
+    /// The remainder has fewer coefficients than `b`. The only error is want of memory.
     pub fn divide<K: FiniteField<E = E>>(
         &self,
         alloc: Global,

@@ -14,7 +14,7 @@ use ff_alg::{Coefficient, FiniteField, NoMemory};
 use std::alloc::Global;
 
 impl<E: Coefficient> Poly<E> {
-    /// The remainder by `b`, which has fewer coefficients than `b`; the list is changed in place.
+    /// The remainder by `b`, which is not 0; the list is changed in place.
     pub(crate) fn reduced<K: FiniteField<E = E>>(self, k: &K, b: &Poly<E>) -> Poly<E>
         requires a { All (IsElement (K.elements k.now)) self }
         requires b { IsPoly (K.elements k.now) b.now }
@@ -29,7 +29,7 @@ impl<E: Coefficient> Poly<E> {
         Poly::trimmed(k, row)
     }
 
-    /// The remainder by `b`, which has fewer coefficients than `b`. The only error is want of memory.
+    /// The remainder by `b`, which is not 0; it has fewer coefficients than `b`. The only error is want of memory.
     pub fn remainder<K: FiniteField<E = E>>(
         &self,
         alloc: Global,
@@ -57,7 +57,7 @@ impl<E: Coefficient> Poly<E> {
         Poly::trimmed(k, row)
     }
 
-    /// The multiple by a constant that has the leading coefficient `c`; 0 stays 0.
+    /// The multiple by a constant that has the leading coefficient `c`, which is not 0; 0 stays 0.
     pub(crate) fn led_by<K: FiniteField<E = E>>(self, k: &K, c: E) -> Poly<E>
         requires a { IsPoly (K.elements k.now) self }
         requires c { IsElement (K.elements k.now) c }
@@ -81,7 +81,8 @@ impl<E: Coefficient> Poly<E> {
         Ok(self.copy(alloc)?.led_by(k, k.one()))
     }
 
-    /// The greatest common divisor whose leading coefficient is 1; 0 only for 0 and 0. The only error is want of memory.
+    /// The greatest common divisor whose leading coefficient is 1, by Euclid's algorithm; it is 0 only for 0 and 0.
+    /// The only error is want of memory.
     pub fn gcd<K: FiniteField<E = E>>(
         &self,
         alloc: Global,

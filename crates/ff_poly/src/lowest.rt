@@ -13,8 +13,9 @@ use ff_alg::{Coefficient, FiniteField, NoMemory, same};
 use std::alloc::Global;
 
 impl<E: Coefficient> Poly<E> {
-    /// The fractions `nums[i] / den` in lowest terms: their common denominator, which is monic, and their numerators.
-    /// No polynomial of positive degree divides these all. The only error is want of memory.
+    /// The fractions `nums[i] / den`, where `den` is not 0, in lowest terms: their common denominator, which is monic,
+    /// and their numerators, as many as there were. No polynomial of positive degree divides the denominator and all
+    /// numerators. The only error is want of memory.
     pub fn lowest<K: FiniteField<E = E>>(
         alloc: Global,
         k: &K,
@@ -35,7 +36,7 @@ impl<E: Coefficient> Poly<E> {
         Ok((low, lows))
     }
 
-    /// The quotient by a divisor. The only error is want of memory.
+    /// The quotient by the divisor `b`, which is not 0; a copy where `b` is 1. The only error is want of memory.
     pub(crate) fn quotient<K: FiniteField<E = E>>(
         &self,
         alloc: Global,
@@ -58,7 +59,7 @@ impl<E: Coefficient> Poly<E> {
     }
 }
 
-/// The quotients by a divisor of all.
+/// The quotients by a divisor of all, one for each.
 fn quotients<E: Coefficient, K: FiniteField<E = E>>(
     alloc: Global,
     k: &K,
@@ -79,7 +80,7 @@ fn quotients<E: Coefficient, K: FiniteField<E = E>>(
     Ok(quotients)
 }
 
-/// A greatest common divisor of a polynomial that is not 0 and of those of a list.
+/// A greatest common divisor of a polynomial and of those of a list; nothing is read once it is a constant.
 fn divisor_of_all<E: Coefficient, K: FiniteField<E = E>>(
     alloc: Global,
     k: &K,

@@ -1,29 +1,16 @@
-// Constants and powers.
+// Powers.
 ghost use Rattle.std.specs.Prelude.{◌≡◌, ◌+◌, ◌-◌, ◌*◌, ◌^◌, ◌<◌, length, IfOk};
 ghost use Rattle.std.specs.List.{All};
 ghost use Rattle.ff_theory.specs.Ring.{IsElement, power};
 ghost use Rattle.ff_theory.specs.Poly.{polynomials};
 ghost use Rattle.ff_poly.specs.Words.{poly_of, IsPoly};
-ghost use Rattle.ff_poly.specs.Monomial.{monomial};
 
 use crate::Poly;
 use ff_alg::{Coefficient, FiniteField, NoMemory};
-use smallvec::SmallVec;
 use std::alloc::Global;
 
 impl<E: Coefficient> Poly<E> {
-    /// The constant polynomial `c`. The only error is want of memory.
-    pub fn constant<K: FiniteField<E = E>>(alloc: Global, k: &K, c: E) -> Result<Poly<E>, NoMemory>
-        requires { IsElement (K.elements k.now) c }
-        ensures poly { IfOk result (λ r. IsPoly (K.elements k.now) r) }
-        ensures value { IfOk result (λ r. poly_of (K.elements k.now) r ≡ monomial (K.elements k.now).ring ((K.elements k.now).value c) 0) }
-    {
-        let mut items = SmallVec::new(alloc);
-        items.push(c)?;
-        Ok(Poly::trimmed(k, items))
-    }
-
-    /// The power, by squaring. The only error is want of memory.
+    /// The power, by squaring; its length, the degree times `n` and one, is within usize. The only error is want of memory.
     pub fn power<K: FiniteField<E = E>>(
         &self,
         alloc: Global,
@@ -36,7 +23,7 @@ impl<E: Coefficient> Poly<E> {
         ensures value { IfOk result (λ r. poly_of (K.elements k.now) r ≡ power (polynomials (K.elements k.now).ring) (poly_of (K.elements k.now) self.now) n) }
     {
         if n == 0 {
-            return Poly::constant(alloc, k, k.one());
+            return Poly::one(alloc, k);
         }
         let half = self.power(alloc, k, n / 2)?;
         let square = Poly::product(alloc, k, half.coeffs(), half.coeffs())?;

@@ -1,3 +1,4 @@
+-- The field k(x), planes as polynomials in y over it, and the algebra k(x)[y]/f; which planes have the value 0 in it.
 use Rattle.std.proofs.Common.{◌≡◌, ℕ, zero, suc, false, List, [], ◌∷◌, refl, sym, ◌∙◌, ap}
 use mathlib.Core.Logic.{∥∥₁_prop}
 use mathlib.Core.Quot.{ind, sound}

@@ -1,3 +1,4 @@
+-- Denominators, numerators, sums, products and inverses of elements of k(x)[y]/f, through polynomials alone.
 use Rattle.std.proofs.Common.{◌≡◌, ℕ, zero, suc, ◌+◌, ◌<◌, ◌≤◌, ◌⊎◌, inl, inr, false, [], ◌∷◌, length, refl, sym, ◌∙◌, ap, ap₂, arith}
 use Rattle.std.proofs.lemmas.Bool.{cases_lt, eqb-true}
 use Rattle.ff_theory.specs.Ring.{RingOps, IsCommRing}
@@ -13,7 +14,7 @@ use Rattle.ff_theory.proofs.FractionField.{whole_one}
 use Rattle.ff_theory.proofs.PolyMap.{polynomial_domain, not_same}
 use Rattle.ff_theory.proofs.Quotient.{class_back}
 use Rattle.ff_theory.proofs.QuotientUnits.{class_differ, residue_map}
-use Rattle.ff_theory.proofs.Algebra.{rational, planes, Plane, fraction_of, embed, embed_at, embed_map, embed_one, embed_size, row, fconst, fconst_inverse, embed_row, algebra, algebra_class, algebra_laws, plane_value, plane_value_map, equation_zero, DividesOver, zero_if_divides}
+use Rattle.ff_theory.proofs.Algebra.{rational, planes, Plane, fraction_of, embed, embed_at, embed_map, embed_one, embed_size, row, fconst, fconst_inverse, embed_row, algebra, algebra_class, algebra_laws, plane_value, plane_value_map, DividesOver, zero_if_divides}
 use Rattle.ff_theory.proofs.LowestTerms.{Reduced, den_nonzero}
 use Rattle.ff_theory.proofs.ReducedForms.{over_cancel, reduced_poly, reduced_at, reduced_class, nums_past}
 

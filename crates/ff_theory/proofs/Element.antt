@@ -1,10 +1,11 @@
+-- The algebra E(f) of any plane f, its elements as a denominator and numerators in lowest terms, and what the code of each operation owes.
 use Rattle.std.proofs.Common.{◌≡◌, ℕ, zero, suc, pred, ◌<◌, Bool, true, false, cond, IsTrue, nat_lt, eqb, List, [], ◌∷◌, length, refl, sym, ◌∙◌, ap, ap₂, arith}
 use Rattle.std.proofs.lemmas.Bool.{eqb-true}
 use Rattle.ff_theory.specs.Ring.{RingOps, IsCommRing, IsTested}
 use Rattle.ff_theory.specs.Lawful.{Domain, Field}
 use Rattle.ff_theory.specs.Poly.{coeff, Poly, poly, polynomials}
 use Rattle.ff_theory.specs.Division.{size}
-use Rattle.ff_theory.proofs.Solver.{Expr, ◌⊕◌, ◌⊗◌, neg, nil, unit, ring1, ring2, ring3, ring4, ring6}
+use Rattle.ff_theory.proofs.Solver.{◌⊕◌, ◌⊗◌, neg, nil, unit, ring1, ring2, ring3, ring4, ring6}
 use Rattle.ff_theory.proofs.Transfer.{IsMap}
 use Rattle.ff_theory.proofs.PolyMap.{compose, polynomial_domain}
 use mathlib.Core.Path.{fun_ext}

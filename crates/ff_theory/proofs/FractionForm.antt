@@ -1,3 +1,4 @@
+-- The numerator and the denominator of a fraction of polynomials in lowest terms.
 use Rattle.std.proofs.Common.{◌≡◌, ℕ, zero, suc, ◌≤◌, Bool, true, false, cond, IsTrue, nat_lt, [], ◌∷◌, length, sym, ◌∙◌, ap, arith}
 use Rattle.std.proofs.lemmas.Bool.{lt-ltb}
 use Rattle.ff_theory.specs.Lawful.{Field}

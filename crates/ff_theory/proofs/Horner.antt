@@ -1,14 +1,12 @@
 -- Evaluation from the top coefficient down, of polynomials in one and in two variables.
-use Rattle.std.proofs.Common.{◌≡◌, ℕ, zero, suc, ◌+◌ as plus_ℕ, ◌-◌, ◌<◌, ◌≤◌, ◌⊎◌, inl, inr, List, [], ◌∷◌, length, refl, sym, ◌∙◌, ap, arith}
-use Rattle.std.proofs.lemmas.Bool.{cases_lt}
-use mathlib.Core.Path.{fun_ext}
+use Rattle.std.proofs.Common.{◌≡◌, ℕ, zero, suc, ◌+◌ as plus_ℕ, ◌-◌, ◌<◌, ◌≤◌, List, [], ◌∷◌, length, refl, sym, ◌∙◌, ap, arith}
 use Rattle.ff_theory.specs.Ring.{RingOps, IsCommRing, power}
 use Rattle.ff_theory.specs.Sum.{sum_below}
 use Rattle.ff_theory.specs.Poly.{coeff, Poly, poly, polynomials}
 use Rattle.ff_theory.specs.Eval.{eval_list, eval, plane_at}
-use Rattle.ff_theory.proofs.Solver.{◌⊕◌, ◌⊗◌, nil, unit, ring1, ring2, ring3, ring4, mul_zero, zero_mul, zero_add}
+use Rattle.ff_theory.proofs.Solver.{◌⊕◌, ◌⊗◌, nil, ring1, ring3}
 use Rattle.ff_theory.proofs.Series.{tail}
-use Rattle.ff_theory.proofs.Sums.{sum-ext, sum-zero, sum-front, sum-mul, sum-swap}
+use Rattle.ff_theory.proofs.Sums.{sum-ext, sum-front, sum-mul, sum-swap}
 
 -- c 0 + y * (c 1 + y * (c 2 + ..)), with n terms
 abbrev pub horner : (R : RingOps) → R.carrier → (ℕ → R.carrier) → ℕ → R.carrier
@@ -58,12 +56,12 @@ module _ (R : RingOps) (laws : IsCommRing R) where
   horner-swap x y c m n =
       horner-sum x (λ i. sum_below R n (λ j. c j i * power R y j)) m
       ∙ sum-ext R laws m (λ i. sum_below R n (λ j. c j i * power R y j) * power R x i) (λ i. sum_below R n (λ j. c j i * power R x i * power R y j)) (λ i l.
-          laws.mul_comm (sum_below R n (λ j. c j i * power R y j)) (power R x i) ∙ sym (sum-mul R laws n (power R x i) (λ j. c j i * power R y j))
-          ∙ sum-ext R laws n (λ j. power R x i * (c j i * power R y j)) (λ j. c j i * power R x i * power R y j) (λ j k. ring3 R laws (λ p c q. p ⊗ (c ⊗ q)) (λ p c q. c ⊗ p ⊗ q) refl (power R x i) (c j i) (power R y j)))
+      laws.mul_comm (sum_below R n (λ j. c j i * power R y j)) (power R x i) ∙ sym (sum-mul R laws n (power R x i) (λ j. c j i * power R y j))
+      ∙ sum-ext R laws n (λ j. power R x i * (c j i * power R y j)) (λ j. c j i * power R x i * power R y j) (λ j k. ring3 R laws (λ p c q. p ⊗ (c ⊗ q)) (λ p c q. c ⊗ p ⊗ q) refl (power R x i) (c j i) (power R y j)))
       ∙ sum-swap R laws m n (λ i j. c j i * power R x i * power R y j)
       ∙ sum-ext R laws n (λ j. sum_below R m (λ i. c j i * power R x i * power R y j)) (λ j. horner R x (c j) m * power R y j) (λ j k.
-          sum-ext R laws m (λ i. c j i * power R x i * power R y j) (λ i. power R y j * (c j i * power R x i)) (λ i l. laws.mul_comm (c j i * power R x i) (power R y j))
-          ∙ sum-mul R laws m (power R y j) (λ i. c j i * power R x i) ∙ laws.mul_comm (power R y j) (sum_below R m (λ i. c j i * power R x i)) ∙ ap (λ t. t * power R y j) (sym (horner-sum x (c j) m)))
+      sum-ext R laws m (λ i. c j i * power R x i * power R y j) (λ i. power R y j * (c j i * power R x i)) (λ i l. laws.mul_comm (c j i * power R x i) (power R y j))
+      ∙ sum-mul R laws m (power R y j) (λ i. c j i * power R x i) ∙ laws.mul_comm (power R y j) (sum_below R m (λ i. c j i * power R x i)) ∙ ap (λ t. t * power R y j) (sym (horner-sum x (c j) m)))
       ∙ sym (horner-sum y (λ j. horner R x (c j) m) n)
 
 pub eval-zero : (S R : RingOps) (h : S.carrier → R.carrier) (y : R.carrier) → eval S R h y (polynomials S).zero ≡ R.zero

@@ -1,3 +1,4 @@
+-- Common divisors of lists of polynomials; fractions in lowest terms exist, and are unique.
 use Rattle.std.proofs.Common.{◌≡◌, ℕ, zero, suc, pred, ◌+◌, ◌<◌, ◌≤◌, ◌⊎◌, inl, inr, Bool, true, false, cond, IsTrue, nat_lt, eqb, ltb, List, [], ◌∷◌, length, refl, sym, ◌∙◌, ap, ap₂, subst, arith}
 use Rattle.std.proofs.lemmas.Bool.{cases_lt, ltb-true, lt-ltb, eqb-true, eq-eqb}
 use mathlib.Core.HLevel.{is_prop→PathP, Π_prop}

@@ -2,7 +2,7 @@
 use Rattle.std.proofs.Common.{◌≡◌, ℕ, zero, suc, ◌+◌, ◌*◌, ◌/◌, ◌%◌, ◌<◌, lit<, refl, sym, ◌∙◌, ap, arith}
 use Rattle.std.proofs.Math.Nat.{div-add-mod, mod-lt}
 use Rattle.ff_theory.specs.Ring.{RingOps, IsCommRing, power}
-use Rattle.ff_theory.proofs.Solver.{◌⊕◌, ◌⊗◌, unit, ring1, ring2, ring3, ring4}
+use Rattle.ff_theory.proofs.Solver.{◌⊗◌, unit, ring1, ring4}
 
 module _ (R : RingOps) (laws : IsCommRing R) where
   pub power-add : (a : R.carrier) (m n : ℕ) → power R a (m + n) ≡ R.mul (power R a m) (power R a n)

@@ -1,5 +1,5 @@
-use Rattle.std.proofs.Common.{◌≡◌, ℕ, ◌<◌, ◌≤◌, IsTrue, refl, arith, sym, ap, ◌∙◌, true, length, get_or}
-use Rattle.ff_theory.specs.PrimeTable.{primes, is_in}
+use Rattle.std.proofs.Common.{refl, arith}
+use Rattle.ff_theory.specs.PrimeTable.{primes}
 use Rattle.ff_theory.proofs.Prime.{is_in-at, not_in}
 use Rattle.ff_prime.proofs.prime.Prime.of.Goals as goal
 
