@@ -9,7 +9,7 @@ use std::alloc::Global;
 use std::test::Fail;
 
 /// The polynomial with those of the coefficients `c`, by rising power, that are below the number of elements.
-fn poly(alloc: Global, k: &Prime, c: &[u64]) -> Result<Poly<u32>, Fail>
+pub(crate) fn poly(alloc: Global, k: &Prime, c: &[u64]) -> Result<Poly<u32>, Fail>
     ensures { IfOk result (λ p. IsPoly (prime_elements k.now.number) p) }
 {
     let mut items = Vec::new(alloc);
@@ -22,7 +22,7 @@ fn poly(alloc: Global, k: &Prime, c: &[u64]) -> Result<Poly<u32>, Fail>
 }
 
 /// Whether a polynomial has the coefficients `want`, by rising power.
-fn is(k: &Prime, p: &Poly<u32>, want: &[u64]) -> bool
+pub(crate) fn is(k: &Prime, p: &Poly<u32>, want: &[u64]) -> bool
     requires { IsPoly (prime_elements k.now.number) p.now }
 {
     let c = p.coeffs();
