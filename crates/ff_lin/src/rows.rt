@@ -1,0 +1,114 @@
+// Operations on single rows, in place.
+ghost use Rattle.std.specs.Prelude.{◌≡◌, ℕ, ◌<◌, ◌≤◌, length, map, get_or};
+ghost use Rattle.std.specs.List.{All};
+ghost use Rattle.ff_theory.specs.Ring.{IsElement};
+ghost use Rattle.ff_lin.specs.Span.{less};
+ghost use Rattle.ff_lin.specs.Space.{vector_of, vectors_of, IsVector};
+
+use ff_alg::{FiniteField, is_zero};
+
+/// `v` less `c` times `w`, which is zero below `start`.
+pub fn subtract<E: Copy + Eq, K: FiniteField<E = E>>(
+    k: &K,
+    v: &mut [E],
+    c: E,
+    w: &[E],
+    start: usize,
+)
+    requires v { All (IsElement (K.elements k.now)) v.old }
+    requires c { IsElement (K.elements k.now) c }
+    requires w { All (IsElement (K.elements k.now)) w.now }
+    requires len { length w.now ≡ length v.old }
+    requires zeros { (j : ℕ) → j < start → vector_of (K.elements k.now) w.now j ≡ (K.elements k.now).zero }
+    ensures len { length v.new ≡ length v.old }
+    ensures each { All (IsElement (K.elements k.now)) v.new }
+    ensures value { (j : ℕ) → vector_of (K.elements k.now) v.new j ≡ less (K.elements k.now).ring (vector_of (K.elements k.now) v.old) ((K.elements k.now).value c) (vector_of (K.elements k.now) w.now) j }
+{
+    if is_zero(k, c) {
+        return;
+    }
+    let factor = k.neg(c);
+    for j in start..v.len() {
+        v[j] = k.add(v[j], k.mul(factor, w[j]));
+    }
+}
+
+/// `c` times `v`.
+pub fn scale<E: Copy + Eq, K: FiniteField<E = E>>(k: &K, v: &mut [E], c: E)
+    requires v { All (IsElement (K.elements k.now)) v.old }
+    requires c { IsElement (K.elements k.now) c }
+    ensures len { length v.new ≡ length v.old }
+    ensures each { All (IsElement (K.elements k.now)) v.new }
+    ensures value { (j : ℕ) → vector_of (K.elements k.now) v.new j ≡ (K.elements k.now).mul ((K.elements k.now).value c) (vector_of (K.elements k.now) v.old j) }
+{
+    for j in 0..v.len() {
+        v[j] = k.mul(c, v[j]);
+    }
+}
+
+/// The multiple of `v` with one at `p`.
+pub fn monic<E: Copy + Eq, K: FiniteField<E = E>>(k: &K, p: usize, v: Vec<E>) -> Vec<E>
+    requires v { All (IsElement (K.elements k.now)) v.items }
+    requires place { p < length v.items }
+    requires nonzero { ¬ (vector_of (K.elements k.now) v.items p ≡ (K.elements k.now).zero) }
+    ensures len { length result.items ≡ length v.items }
+    ensures each { All (IsElement (K.elements k.now)) result.items }
+    ensures value { (j : ℕ) → vector_of (K.elements k.now) result.items j ≡ (K.elements k.now).mul ((K.elements k.now).inverse (vector_of (K.elements k.now) v.items p)) (vector_of (K.elements k.now) v.items j) }
+{
+    let mut scaled = v;
+    let c = k.inv(scaled[p]);
+    scale(k, &mut scaled, c);
+    scaled
+}
+
+/// The place of the first entry that is not zero, and the length where there is none.
+pub fn leading<E: Copy + Eq, K: FiniteField<E = E>>(k: &K, v: &[E]) -> usize
+    requires v { All (IsElement (K.elements k.now)) v.now }
+    ensures within { result ≤ length v.now }
+    ensures zeros { (j : ℕ) → j < result → vector_of (K.elements k.now) v.now j ≡ (K.elements k.now).zero }
+    ensures nonzero { result < length v.now → ¬ (vector_of (K.elements k.now) v.now result ≡ (K.elements k.now).zero) }
+{
+    for j in 0..v.len() {
+        if !is_zero(k, v[j]) {
+            return j;
+        }
+    }
+    v.len()
+}
+
+/// How many of the rising places are below `p`, which is none of them.
+pub fn position(places: &[usize], p: usize) -> usize
+    requires rises { (i l : ℕ) → i < l → l < length places.now → get_or places.now i 0 < get_or places.now l 0 }
+    requires other { (i : ℕ) → i < length places.now → ¬ (get_or places.now i 0 ≡ p) }
+    ensures within { result ≤ length places.now }
+    ensures lower { (i : ℕ) → i < result → get_or places.now i 0 < p }
+    ensures upper { (i : ℕ) → result ≤ i → i < length places.now → p < get_or places.now i 0 }
+{
+    for i in 0..places.len() {
+        if places[i] > p {
+            return i;
+        }
+    }
+    places.len()
+}
+
+/// Each row less its entry at `p` times `w`, which is zero below `p`.
+pub fn clear_rows<E: Copy + Eq, K: FiniteField<E = E>>(
+    k: &K,
+    rows: &mut [Vec<E>],
+    p: usize,
+    w: &[E],
+)
+    requires rows { All (λ v. IsVector (K.elements k.now) (length w.now) v.items) rows.old }
+    requires w { All (IsElement (K.elements k.now)) w.now }
+    requires place { p < length w.now }
+    requires zeros { (j : ℕ) → j < p → vector_of (K.elements k.now) w.now j ≡ (K.elements k.now).zero }
+    ensures len { length rows.new ≡ length rows.old }
+    ensures rows { All (λ v. IsVector (K.elements k.now) (length w.now) v.items) rows.new }
+    ensures value { (i j : ℕ) → i < length rows.old → vectors_of (K.elements k.now) (map (λ v. v.items) rows.new) i j ≡ less (K.elements k.now).ring (vectors_of (K.elements k.now) (map (λ v. v.items) rows.old) i) (vectors_of (K.elements k.now) (map (λ v. v.items) rows.old) i p) (vector_of (K.elements k.now) w.now) j }
+{
+    for i in 0..rows.len() {
+        let c = rows[i][p];
+        subtract(k, &mut rows[i], c, w, p);
+    }
+}
