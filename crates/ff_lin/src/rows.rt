@@ -1,11 +1,12 @@
 // Operations on single rows, in place.
-ghost use Rattle.std.specs.Prelude.{◌≡◌, ℕ, ◌<◌, ◌≤◌, length, map, get_or};
+ghost use Rattle.std.specs.Prelude.{◌≡◌, ℕ, ◌<◌, ◌≤◌, IfOk, length, map, reverse, get_or};
 ghost use Rattle.std.specs.List.{All};
-ghost use Rattle.ff_theory.specs.Ring.{IsElement};
-ghost use Rattle.ff_lin.specs.Span.{less};
-ghost use Rattle.ff_lin.specs.Space.{vector_of, vectors_of, IsVector};
+ghost use Rattle.ff_theory.specs.Ring.{IsElement, power};
+ghost use Rattle.ff_lin.specs.Span.{combination, less};
+ghost use Rattle.ff_lin.specs.Space.{vector_of, vectors_of, IsVector, combination_of, frobenius};
 
-use ff_alg::{FiniteField, is_zero};
+use ff_alg::{FiniteField, NoMemory, is_zero};
+use std::alloc::Global;
 
 /// `v` less `c` times `w`, which is zero below `start`.
 pub fn subtract<E: Copy + Eq, K: FiniteField<E = E>>(
@@ -110,5 +111,77 @@ pub fn clear_rows<E: Copy + Eq, K: FiniteField<E = E>>(
     for i in 0..rows.len() {
         let c = rows[i][p];
         subtract(k, &mut rows[i], c, w, p);
+    }
+}
+
+/// Adds to `v` the combination of the rows with the coefficients `c`.
+pub fn add_combination<E: Copy + Eq, K: FiniteField<E = E>>(
+    k: &K,
+    v: &mut [E],
+    c: &[E],
+    rows: &[Vec<E>],
+)
+    requires v { All (IsElement (K.elements k.now)) v.old }
+    requires c { IsVector (K.elements k.now) (length rows.now) c.now }
+    requires rows { All (λ w. IsVector (K.elements k.now) (length v.old) w.items) rows.now }
+    ensures len { length v.new ≡ length v.old }
+    ensures each { All (IsElement (K.elements k.now)) v.new }
+    ensures value { (j : ℕ) → vector_of (K.elements k.now) v.new j ≡ (K.elements k.now).add (vector_of (K.elements k.now) v.old j) (combination_of (K.elements k.now) (map (λ w. w.items) rows.now) (vector_of (K.elements k.now) c.now) j) }
+{
+    for i in 0..rows.len() {
+        subtract(k, v, k.neg(c[i]), &rows[i], 0);
+    }
+}
+
+/// `n` zeros.
+pub fn zeros<E: Copy + Eq, K: FiniteField<E = E>>(
+    alloc: Global,
+    k: &K,
+    n: usize,
+) -> Result<Vec<E>, NoMemory>
+    ensures vector { IfOk result (λ v. IsVector (K.elements k.now) n v.items) }
+    ensures value { IfOk result (λ v. (j : ℕ) → vector_of (K.elements k.now) v.items j ≡ (K.elements k.now).zero) }
+{
+    let mut zeros = Vec::with_capacity(alloc, n)?;
+    for _j in 0..n {
+        zeros.push(k.zero())?;
+    }
+    Ok(zeros)
+}
+
+/// The combination of the rows of length `n` with the coefficients `c`.
+pub fn combine<E: Copy + Eq, K: FiniteField<E = E>>(
+    alloc: Global,
+    k: &K,
+    n: usize,
+    c: &[E],
+    rows: &[Vec<E>],
+) -> Result<Vec<E>, NoMemory>
+    requires c { IsVector (K.elements k.now) (length rows.now) c.now }
+    requires rows { All (λ w. IsVector (K.elements k.now) n w.items) rows.now }
+    ensures vector { IfOk result (λ v. IsVector (K.elements k.now) n v.items) }
+    ensures value { IfOk result (λ v. (j : ℕ) → vector_of (K.elements k.now) v.items j ≡ combination_of (K.elements k.now) (map (λ w. w.items) rows.now) (vector_of (K.elements k.now) c.now) j) }
+{
+    let mut sum = zeros(alloc, k, n)?;
+    add_combination(k, &mut sum, c, rows);
+    Ok(sum)
+}
+
+/// The entries from the last to the first.
+pub fn reversed<E: Copy + Eq>(alloc: Global, v: &[E]) -> Result<Vec<E>, NoMemory>
+    ensures { IfOk result (λ w. w.items ≡ reverse v.now) }
+{
+    Ok(v.iter().rev().copied().collect(alloc)?)
+}
+
+/// Each entry to its root by the characteristic.
+pub fn take_roots<E: Copy + Eq, K: FiniteField<E = E>>(k: &K, v: &mut [E])
+    requires v { All (IsElement (K.elements k.now)) v.old }
+    ensures len { length v.new ≡ length v.old }
+    ensures each { All (IsElement (K.elements k.now)) v.new }
+    ensures value { (j : ℕ) → frobenius (K.elements k.now) (vector_of (K.elements k.now) v.new) j ≡ vector_of (K.elements k.now) v.old j }
+{
+    for j in 0..v.len() {
+        v[j] = k.root(v[j]);
     }
 }
