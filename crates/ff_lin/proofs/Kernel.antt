@@ -34,8 +34,8 @@ module _ (R : RingOps) (laws : IsCommRing R) where
   pub product-combination : (n r : ℕ) (c : ℕ → C) (w : ℕ → ℕ → C) (x : ℕ → C) → product R n (combination R r c w) x ≡ sum_below R r (λ i. c i * product R n (w i) x)
   product-combination n r c w x =
       sum-ext R laws n (λ j. combination R r c w j * x j) (λ j. sum_below R r (λ i. c i * (w i j * x j)))
-          (λ j l. laws.mul_comm (combination R r c w j) (x j) ∙ sym (sum-mul R laws r (x j) (λ i. c i * w i j))
-            ∙ sum-ext R laws r (λ i. x j * (c i * w i j)) (λ i. c i * (w i j * x j)) (λ i q. ring3 R laws (λ x c w. x ⊗ (c ⊗ w)) (λ x c w. c ⊗ (w ⊗ x)) refl (x j) (c i) (w i j)))
+      (λ j l. laws.mul_comm (combination R r c w j) (x j) ∙ sym (sum-mul R laws r (x j) (λ i. c i * w i j))
+      ∙ sum-ext R laws r (λ i. x j * (c i * w i j)) (λ i. c i * (w i j * x j)) (λ i q. ring3 R laws (λ x c w. x ⊗ (c ⊗ w)) (λ x c w. c ⊗ (w ⊗ x)) refl (x j) (c i) (w i j)))
       ∙ sum-swap R laws n r (λ j i. c i * (w i j * x j))
       ∙ sum-ext R laws r (λ i. sum_below R n (λ j. c i * (w i j * x j))) (λ i. c i * product R n (w i) x) (λ i q. sum-mul R laws n (c i) (λ j. w i j * x j))
 
@@ -62,13 +62,13 @@ module _ (R : RingOps) (laws : IsCommRing R) where
     null-product : (f l : ℕ) → f < n → l < r → product R n (null_vector r b pivot f) (b l) ≡ R.zero
     null-product f l q k =
         sum-ext R laws n (λ j. null_vector r b pivot f j * b l j) (less R (λ j. unit_at R f j * b l j) R.one (λ j. combination R r (λ i. b i f) (λ i. unit_at R (pivot i)) j * b l j))
-            (λ j m. ring3 R laws (λ u s b. (u ⊕ neg (unit ⊗ s)) ⊗ b) (λ u s b. u ⊗ b ⊕ neg (unit ⊗ (s ⊗ b))) refl (unit_at R f j) (combination R r (λ i. b i f) (λ i. unit_at R (pivot i)) j) (b l j))
+        (λ j m. ring3 R laws (λ u s b. (u ⊕ neg (unit ⊗ s)) ⊗ b) (λ u s b. u ⊗ b ⊕ neg (unit ⊗ (s ⊗ b))) refl (unit_at R f j) (combination R r (λ i. b i f) (λ i. unit_at R (pivot i)) j) (b l j))
         ∙ sum-less n R.one (λ j. unit_at R f j * b l j) (λ j. combination R r (λ i. b i f) (λ i. unit_at R (pivot i)) j * b l j)
         ∙ ap (λ t. t + minus (R.one * product R n (combination R r (λ i. b i f) (λ i. unit_at R (pivot i))) (b l))) (product-unit n f (b l) q)
         ∙ ap (λ t. b l f + minus (R.one * t)) (product-combination n r (λ i. b i f) (λ i. unit_at R (pivot i)) (b l)
-            ∙ sum-single R laws r l (λ i. b i f * product R n (unit_at R (pivot i)) (b l)) k
-                (λ i m d. ap (λ t. b i f * t) (product-unit n (pivot i) (b l) (places i m) ∙ zero_at i l m k (λ e. d (sym e))) ∙ mul_zero R laws (b i f))
-            ∙ ap (λ t. b l f * t) (product-unit n (pivot l) (b l) (places l k) ∙ one_at l k))
+        ∙ sum-single R laws r l (λ i. b i f * product R n (unit_at R (pivot i)) (b l)) k
+        (λ i m d. ap (λ t. b i f * t) (product-unit n (pivot i) (b l) (places i m) ∙ zero_at i l m k (λ e. d (sym e))) ∙ mul_zero R laws (b i f))
+        ∙ ap (λ t. b l f * t) (product-unit n (pivot l) (b l) (places l k) ∙ one_at l k))
         ∙ ring1 R laws (λ a. a ⊕ neg (unit ⊗ (a ⊗ unit))) (λ a. nil) refl (b l f)
 
     null-ends : (f : ℕ) → f < n → EndsAt R n (null_vector r b pivot f)
@@ -80,21 +80,24 @@ module _ (R : RingOps) (laws : IsCommRing R) where
     null-sum : (v : ℕ → C) (j : ℕ) → combination R n v (null_vector r b pivot) j ≡ combination R n v (unit_at R) j + minus (R.one * combination R r (λ i. product R n v (b i)) (λ i. unit_at R (pivot i)) j)
     null-sum v j =
         sum-ext R laws n (λ f. v f * null_vector r b pivot f j) (less R (λ f. v f * unit_at R f j) R.one (λ f. v f * combination R r (λ i. b i f) (λ i. unit_at R (pivot i)) j))
-            (λ f l. ring3 R laws (λ v u s. v ⊗ (u ⊕ neg (unit ⊗ s))) (λ v u s. v ⊗ u ⊕ neg (unit ⊗ (v ⊗ s))) refl (v f) (unit_at R f j) (combination R r (λ i. b i f) (λ i. unit_at R (pivot i)) j))
+        (λ f l. ring3 R laws (λ v u s. v ⊗ (u ⊕ neg (unit ⊗ s))) (λ v u s. v ⊗ u ⊕ neg (unit ⊗ (v ⊗ s))) refl (v f) (unit_at R f j) (combination R r (λ i. b i f) (λ i. unit_at R (pivot i)) j))
         ∙ sum-less n R.one (λ f. v f * unit_at R f j) (λ f. v f * combination R r (λ i. b i f) (λ i. unit_at R (pivot i)) j)
         ∙ ap (λ t. combination R n v (unit_at R) j + minus (R.one * t))
-            (sum-ext R laws n (λ f. v f * combination R r (λ i. b i f) (λ i. unit_at R (pivot i)) j) (λ f. sum_below R r (λ i. unit_at R (pivot i) j * (v f * b i f)))
-                (λ f l. sym (sum-mul R laws r (v f) (λ i. b i f * unit_at R (pivot i) j)) ∙ sum-ext R laws r (λ i. v f * (b i f * unit_at R (pivot i) j)) (λ i. unit_at R (pivot i) j * (v f * b i f))
-                  (λ i q. ring3 R laws (λ v b u. v ⊗ (b ⊗ u)) (λ v b u. u ⊗ (v ⊗ b)) refl (v f) (b i f) (unit_at R (pivot i) j)))
-            ∙ sum-swap R laws n r (λ f i. unit_at R (pivot i) j * (v f * b i f))
-            ∙ sum-ext R laws r (λ i. sum_below R n (λ f. unit_at R (pivot i) j * (v f * b i f))) (λ i. product R n v (b i) * unit_at R (pivot i) j)
-                (λ i q. sum-mul R laws n (unit_at R (pivot i) j) (λ f. v f * b i f) ∙ laws.mul_comm (unit_at R (pivot i) j) (product R n v (b i))))
+        (sum-ext R laws n (λ f. v f * combination R r (λ i. b i f) (λ i. unit_at R (pivot i)) j) (λ f. sum_below R r (λ i. unit_at R (pivot i) j * (v f * b i f)))
+        (λ f l. sym (sum-mul R laws r (v f) (λ i. b i f * unit_at R (pivot i) j)) ∙ sum-ext R laws r (λ i. v f * (b i f * unit_at R (pivot i) j)) (λ i. unit_at R (pivot i) j * (v f * b i f))
+        (λ i q. ring3 R laws (λ v b u. v ⊗ (b ⊗ u)) (λ v b u. u ⊗ (v ⊗ b)) refl (v f) (b i f) (unit_at R (pivot i) j)))
+        ∙ sum-swap R laws n r (λ f i. unit_at R (pivot i) j * (v f * b i f))
+        ∙ sum-ext R laws r (λ i. sum_below R n (λ f. unit_at R (pivot i) j * (v f * b i f))) (λ i. product R n v (b i) * unit_at R (pivot i) j)
+        (λ i q. sum-mul R laws n (unit_at R (pivot i) j) (λ f. v f * b i f) ∙ laws.mul_comm (unit_at R (pivot i) j) (product R n v (b i))))
 
     -- a vector is in the span of the null vectors exactly where its products with b are zero
     pub kernel-in : (v : ℕ → C) → EndsAt R n v → ((l : ℕ) → l < r → product R n v (b l) ≡ R.zero) → InSpan R n (null_vector r b pivot) v
-    kernel-in v ends h = record { coefficients = v; sum = λ j. sym (null-sum v j
-        ∙ ap (λ t. combination R n v (unit_at R) j + minus (R.one * t)) (combination-zero r (λ i. product R n v (b i)) (λ i. unit_at R (pivot i)) j h)
-        ∙ ring1 R laws (λ a. a ⊕ neg (unit ⊗ nil)) (λ a. a) refl (combination R n v (unit_at R) j) ∙ go j (cases_lt j n)) }
+    kernel-in v ends h = record {
+      coefficients = v;
+      sum = λ j. sym (null-sum v j
+          ∙ ap (λ t. combination R n v (unit_at R) j + minus (R.one * t)) (combination-zero r (λ i. product R n v (b i)) (λ i. unit_at R (pivot i)) j h)
+          ∙ ring1 R laws (λ a. a ⊕ neg (unit ⊗ nil)) (λ a. a) refl (combination R n v (unit_at R) j) ∙ go j (cases_lt j n));
+    }
       where
         go : (j : ℕ) → (j < n) ⊎ (n ≤ j) → combination R n v (unit_at R) j ≡ v j
         go j (inl l) = combination-unit n v j l

@@ -11,7 +11,7 @@ pub returns-then-is_zero-clause-value : goal.returns-then-is_zero-clause-value
 returns-then-is_zero-clause-value g c j =
     let K = g.K.Ring.elements c.args.k.now in
     less-zero_factor K (g.met.K.Ring.laws c.args.k.now) (vector_of K c.args.v.now) (vector_of K c.args.w.now) (K.value c.args.c) j
-        ((g.met.K.Ring.tests c.args.k.now).same_true (K.value c.args.c) K.zero (sym c.is_zero.ensures ∙ c.if-is_zero.true))
+    ((g.met.K.Ring.tests c.args.k.now).same_true (K.value c.args.c) K.zero (sym c.is_zero.ensures ∙ c.if-is_zero.true))
 
 pub loop-j-init : goal.loop-j-init
 loop-j-init g c =
@@ -34,7 +34,7 @@ loop-j-preserved g c =
       factor = c.neg-factor.ensures.element;
       below = rewrite-below K.ring K.value c.loop-j.v c.loop-j.j c.add.result (less K.ring (vector_of K c.args.v.now) (K.value c.args.c) (vector_of K c.args.w.now)) bound c.loop-j.invariant.below
           (subtracted_at K (g.met.K.Ring.laws c.args.k.now) c.loop-j.v c.args.v.now c.args.w.now c.loop-j.j c.args.c c.neg-factor.result c.index-v-j.result c.index-w-j.result c.mul.result c.add.result bound (omega (arith, c.requires.len, c.loop-j.invariant.len)) c.index-v-j.is c.index-w-j.is
-            (c.loop-j.invariant.above c.loop-j.j (omega arith)) c.neg-factor.ensures.value c.mul.ensures.value c.add.ensures.value);
+          (c.loop-j.invariant.above c.loop-j.j (omega arith)) c.neg-factor.ensures.value c.mul.ensures.value c.add.ensures.value);
       above = rewrite-above K.ring K.value c.loop-j.v c.loop-j.j c.add.result (vector_of K c.args.v.now) c.loop-j.invariant.above;
     }
 
