@@ -6,6 +6,7 @@ use Rattle.ff_theory.proofs.Coeffs.{coeff-past}
 use Rattle.ff_theory.proofs.Solver.{◌⊕◌, ◌⊗◌, neg, nil, ring4, zero_mul}
 use Rattle.ff_lin.specs.Span.{combination, less}
 use Rattle.ff_lin.specs.Space.{vector_of, vectors_of, frobenius}
+use Rattle.ff_lin.proofs.Frobenius.{power-zero}
 use Rattle.ff_lin.proofs.Entries.{entry, set-same, set-other}
 
 module _ {E : Type 0} (K : Elements E) (laws : IsCommRing K.ring) where
@@ -31,17 +32,12 @@ module _ {E : Type 0} (K : Elements E) (laws : IsCommRing K.ring) where
       go (inl q) = h j q
       go (inr q) = coeff-past K.ring K.value xs j (omega arith)
 
-  -- the power of zero
-  pub power-zero : (n : ℕ) → 0 < n → power K.ring K.zero n ≡ K.zero
-  power-zero zero l = absurd (omega arith)
-  power-zero (suc n) l = zero_mul K.ring laws (power K.ring K.zero n)
-
   pub roots-all : (xs v : List E) (n : ℕ) → 0 < K.characteristic → length xs ≡ length v → length v ≤ n → ((j : ℕ) → j < n → frobenius K (vector_of K xs) j ≡ vector_of K v j) → (j : ℕ) → frobenius K (vector_of K xs) j ≡ vector_of K v j
   roots-all xs v n pos lx l h j = go (cases_lt j n)
     where
       go : (j < n) ⊎ (n ≤ j) → frobenius K (vector_of K xs) j ≡ vector_of K v j
       go (inl q) = h j q
-      go (inr q) = ap (λ t. power K.ring t K.characteristic) (coeff-past K.ring K.value xs j (omega arith)) ∙ power-zero K.characteristic pos ∙ sym (coeff-past K.ring K.value v j (omega arith))
+      go (inr q) = ap (λ t. power K.ring t K.characteristic) (coeff-past K.ring K.value xs j (omega arith)) ∙ power-zero K.ring laws K.characteristic pos ∙ sym (coeff-past K.ring K.value v j (omega arith))
 
   pub roots-below : (xs v : List E) (i : ℕ) (x y : E) → i < length xs → x ≡ get_or xs i x → power K.ring (K.value y) K.characteristic ≡ K.value x → vector_of K xs i ≡ vector_of K v i
       → ((j : ℕ) → j < i → frobenius K (vector_of K xs) j ≡ vector_of K v j) → (j : ℕ) → j < i + 1 → frobenius K (vector_of K (set xs i y)) j ≡ vector_of K v j

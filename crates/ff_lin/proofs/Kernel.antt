@@ -4,8 +4,9 @@ use Rattle.ff_theory.specs.Ring.{RingOps, IsCommRing}
 use Rattle.ff_theory.specs.Sum.{sum_below}
 use Rattle.ff_theory.proofs.Solver.{◌⊕◌, ◌⊗◌, neg, nil, unit, ring1, ring3, ring6, zero_mul, mul_zero}
 use Rattle.ff_theory.proofs.Sums.{sum-ext, sum-zero, sum-single, sum-mul, sum-swap}
-use Rattle.ff_lin.specs.Span.{combination, product, EndsAt, InSpan, less}
-use Rattle.ff_lin.proofs.Span.{unit_at, unit-same, unit-other}
+use Rattle.ff_lin.specs.Span.{combination, product, EndsAt, InSpan, less, unit_at}
+use Rattle.ff_lin.specs.Kernel.{null_vector}
+use Rattle.ff_lin.proofs.Span.{unit-same, unit-other}
 
 -- The kernel of vectors of length n, by a basis b of their span with pivots.
 module _ (R : RingOps) (laws : IsCommRing R) where
@@ -53,15 +54,11 @@ module _ (R : RingOps) (laws : IsCommRing R) where
       ∙ sum-ext R laws r (λ i. k.coefficients i * product R n (w i) v) (λ i. R.zero) (λ i l. ap (λ t. k.coefficients i * t) (product-comm n (w i) v ∙ h i l) ∙ mul_zero R laws (k.coefficients i))
       ∙ sum-zero R laws r
 
-  -- one at place f, and at the pivots what makes the products with b zero
-  abbrev pub null_vector : (r : ℕ) → (ℕ → ℕ → C) → (ℕ → ℕ) → ℕ → ℕ → C
-  null_vector r b pivot f = less R (unit_at R f) R.one (combination R r (λ i. b i f) (λ i. unit_at R (pivot i)))
-
   module _ (n r : ℕ) (b : ℕ → ℕ → C) (pivot : ℕ → ℕ) (one_at : (i : ℕ) → i < r → b i (pivot i) ≡ R.one) (zero_at : (i l : ℕ) → i < r → l < r → ¬ (l ≡ i) → b l (pivot i) ≡ R.zero)
       (places : (i : ℕ) → i < r → pivot i < n) where
-    null-product : (f l : ℕ) → f < n → l < r → product R n (null_vector r b pivot f) (b l) ≡ R.zero
+    null-product : (f l : ℕ) → f < n → l < r → product R n (null_vector R r b pivot f) (b l) ≡ R.zero
     null-product f l q k =
-        sum-ext R laws n (λ j. null_vector r b pivot f j * b l j) (less R (λ j. unit_at R f j * b l j) R.one (λ j. combination R r (λ i. b i f) (λ i. unit_at R (pivot i)) j * b l j))
+        sum-ext R laws n (λ j. null_vector R r b pivot f j * b l j) (less R (λ j. unit_at R f j * b l j) R.one (λ j. combination R r (λ i. b i f) (λ i. unit_at R (pivot i)) j * b l j))
         (λ j m. ring3 R laws (λ u s b. (u ⊕ neg (unit ⊗ s)) ⊗ b) (λ u s b. u ⊗ b ⊕ neg (unit ⊗ (s ⊗ b))) refl (unit_at R f j) (combination R r (λ i. b i f) (λ i. unit_at R (pivot i)) j) (b l j))
         ∙ sum-less n R.one (λ j. unit_at R f j * b l j) (λ j. combination R r (λ i. b i f) (λ i. unit_at R (pivot i)) j * b l j)
         ∙ ap (λ t. t + minus (R.one * product R n (combination R r (λ i. b i f) (λ i. unit_at R (pivot i))) (b l))) (product-unit n f (b l) q)
@@ -71,15 +68,15 @@ module _ (R : RingOps) (laws : IsCommRing R) where
         ∙ ap (λ t. b l f * t) (product-unit n (pivot l) (b l) (places l k) ∙ one_at l k))
         ∙ ring1 R laws (λ a. a ⊕ neg (unit ⊗ (a ⊗ unit))) (λ a. nil) refl (b l f)
 
-    null-ends : (f : ℕ) → f < n → EndsAt R n (null_vector r b pivot f)
+    null-ends : (f : ℕ) → f < n → EndsAt R n (null_vector R r b pivot f)
     null-ends f q j l =
         ap (λ t. t + minus (R.one * combination R r (λ i. b i f) (λ i. unit_at R (pivot i)) j)) (unit-other R f j (λ e. absurd (omega (arith, e))))
         ∙ ap (λ t. R.zero + minus (R.one * t)) (sum-ext R laws r (λ i. b i f * unit_at R (pivot i) j) (λ i. R.zero) (λ i m. let p : pivot i < n = places i m in ap (λ t. b i f * t) (unit-other R (pivot i) j (λ e. absurd (omega (arith, e, p)))) ∙ mul_zero R laws (b i f)) ∙ sum-zero R laws r)
         ∙ ring1 R laws (λ a. nil ⊕ neg (unit ⊗ nil)) (λ a. nil) refl R.one
 
-    null-sum : (v : ℕ → C) (j : ℕ) → combination R n v (null_vector r b pivot) j ≡ combination R n v (unit_at R) j + minus (R.one * combination R r (λ i. product R n v (b i)) (λ i. unit_at R (pivot i)) j)
+    null-sum : (v : ℕ → C) (j : ℕ) → combination R n v (null_vector R r b pivot) j ≡ combination R n v (unit_at R) j + minus (R.one * combination R r (λ i. product R n v (b i)) (λ i. unit_at R (pivot i)) j)
     null-sum v j =
-        sum-ext R laws n (λ f. v f * null_vector r b pivot f j) (less R (λ f. v f * unit_at R f j) R.one (λ f. v f * combination R r (λ i. b i f) (λ i. unit_at R (pivot i)) j))
+        sum-ext R laws n (λ f. v f * null_vector R r b pivot f j) (less R (λ f. v f * unit_at R f j) R.one (λ f. v f * combination R r (λ i. b i f) (λ i. unit_at R (pivot i)) j))
         (λ f l. ring3 R laws (λ v u s. v ⊗ (u ⊕ neg (unit ⊗ s))) (λ v u s. v ⊗ u ⊕ neg (unit ⊗ (v ⊗ s))) refl (v f) (unit_at R f j) (combination R r (λ i. b i f) (λ i. unit_at R (pivot i)) j))
         ∙ sum-less n R.one (λ f. v f * unit_at R f j) (λ f. v f * combination R r (λ i. b i f) (λ i. unit_at R (pivot i)) j)
         ∙ ap (λ t. combination R n v (unit_at R) j + minus (R.one * t))
@@ -91,7 +88,7 @@ module _ (R : RingOps) (laws : IsCommRing R) where
         (λ i q. sum-mul R laws n (unit_at R (pivot i) j) (λ f. v f * b i f) ∙ laws.mul_comm (unit_at R (pivot i) j) (product R n v (b i))))
 
     -- a vector is in the span of the null vectors exactly where its products with b are zero
-    pub kernel-in : (v : ℕ → C) → EndsAt R n v → ((l : ℕ) → l < r → product R n v (b l) ≡ R.zero) → InSpan R n (null_vector r b pivot) v
+    pub kernel-in : (v : ℕ → C) → EndsAt R n v → ((l : ℕ) → l < r → product R n v (b l) ≡ R.zero) → InSpan R n (null_vector R r b pivot) v
     kernel-in v ends h = record {
       coefficients = v;
       sum = λ j. sym (null-sum v j
@@ -103,8 +100,8 @@ module _ (R : RingOps) (laws : IsCommRing R) where
         go j (inl l) = combination-unit n v j l
         go j (inr l) = combination-unit_past n v j l ∙ sym (ends j l)
 
-    pub kernel-ends : (v : ℕ → C) → InSpan R n (null_vector r b pivot) v → EndsAt R n v
-    kernel-ends v h j l = h.sum j ∙ sum-ext R laws n (λ f. h.coefficients f * null_vector r b pivot f j) (λ f. R.zero) (λ f q. ap (λ t. h.coefficients f * t) (null-ends f q j l) ∙ mul_zero R laws (h.coefficients f)) ∙ sum-zero R laws n
+    pub kernel-ends : (v : ℕ → C) → InSpan R n (null_vector R r b pivot) v → EndsAt R n v
+    kernel-ends v h j l = h.sum j ∙ sum-ext R laws n (λ f. h.coefficients f * null_vector R r b pivot f j) (λ f. R.zero) (λ f q. ap (λ t. h.coefficients f * t) (null-ends f q j l) ∙ mul_zero R laws (h.coefficients f)) ∙ sum-zero R laws n
 
-    pub kernel-product : (v : ℕ → C) → InSpan R n (null_vector r b pivot) v → (l : ℕ) → l < r → product R n v (b l) ≡ R.zero
-    kernel-product v h l q = product-comm n v (b l) ∙ product-span n n (null_vector r b pivot) (b l) v (λ f k. product-comm n (b l) (null_vector r b pivot f) ∙ null-product f l k q) h
+    pub kernel-product : (v : ℕ → C) → InSpan R n (null_vector R r b pivot) v → (l : ℕ) → l < r → product R n v (b l) ≡ R.zero
+    kernel-product v h l q = product-comm n v (b l) ∙ product-span n n (null_vector R r b pivot) (b l) v (λ f k. product-comm n (b l) (null_vector R r b pivot f) ∙ null-product f l k q) h

@@ -77,7 +77,7 @@ impl<E: Copy + Eq> Space<E> {
     }
 
     /// The vector less the combination of the basis that has its entries at the pivots.
-    fn rest<K: FiniteField<E = E>>(&self, k: &K, v: Vec<E>) -> Vec<E>
+    pub(crate) fn rest<K: FiniteField<E = E>>(&self, k: &K, v: Vec<E>) -> Vec<E>
         requires space { IsSpace (K.elements k.now) self.now }
         requires v { IsVector (K.elements k.now) self.now.len v.items }
         ensures vector { IsVector (K.elements k.now) self.now.len result.items }

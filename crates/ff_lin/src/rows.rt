@@ -1,5 +1,5 @@
 // Operations on single rows, in place.
-ghost use Rattle.std.specs.Prelude.{◌≡◌, ℕ, ◌<◌, ◌≤◌, IfOk, length, map, reverse, get_or};
+ghost use Rattle.std.specs.Prelude.{◌≡◌, ℕ, ◌<◌, ◌≤◌, ◌-◌, IfOk, [], length, map, reverse, get_or};
 ghost use Rattle.std.specs.List.{All};
 ghost use Rattle.ff_theory.specs.Ring.{IsElement, power};
 ghost use Rattle.ff_lin.specs.Span.{combination, less};
@@ -184,4 +184,32 @@ pub fn take_roots<E: Copy + Eq, K: FiniteField<E = E>>(k: &K, v: &mut [E])
     for j in 0..v.len() {
         v[j] = k.root(v[j]);
     }
+}
+
+/// Entry `j` of each row, from the last row to the first.
+pub fn column<E: Copy>(alloc: Global, rows: &[Vec<E>], j: usize) -> Result<Vec<E>, NoMemory>
+    requires { All (λ v. j < length v.items) rows.now }
+    ensures len { IfOk result (λ w. length w.items ≡ length rows.now) }
+    ensures value { IfOk result (λ w. (i : ℕ) (d : E) → i < length rows.now → get_or w.items i d ≡ get_or (get_or (map (λ v. v.items) rows.now) (length rows.now - 1 - i) []) j d) }
+{
+    let mut column = Vec::with_capacity(alloc, rows.len())?;
+    for i in 0..rows.len() {
+        column.push(rows[rows.len() - 1 - i][j])?;
+    }
+    Ok(column)
+}
+
+/// The row of the roots of the entries by the characteristic.
+pub fn rooted<E: Copy + Eq, K: FiniteField<E = E>>(
+    alloc: Global,
+    k: &K,
+    v: &[E],
+) -> Result<Vec<E>, NoMemory>
+    requires { All (IsElement (K.elements k.now)) v.now }
+    ensures vector { IfOk result (λ w. IsVector (K.elements k.now) (length v.now) w.items) }
+    ensures value { IfOk result (λ w. (j : ℕ) → frobenius (K.elements k.now) (vector_of (K.elements k.now) w.items) j ≡ vector_of (K.elements k.now) v.now j) }
+{
+    let mut roots = Vec::from_slice(alloc, v)?;
+    take_roots(k, &mut roots);
+    Ok(roots)
 }

@@ -33,4 +33,4 @@ returns-clause-same g c =
     let items : Vec g.row.E.Denot Global → _ = λ v. v.items in
     let rows = map items c.args.rows.now in
     subst (λ n. SameSpan K.ring (length c.loop-row.space.basis) (vectors_of K c.loop-row.space.basis) n (vectors_of K (c.args.self.basis ++ rows)))
-        (omega (arith, length-map c.args.rows.now items, length-append c.args.self.basis rows)) c.loop-row.invariant.same
+    (omega (arith, length-map c.args.rows.now items, length-append c.args.self.basis rows)) c.loop-row.invariant.same

@@ -1,0 +1,26 @@
+use Rattle.std.specs.Prelude.{ℕ, ◌-◌, nat_lt, cond, length}
+use Rattle.ff_theory.specs.Ring.{RingOps, Elements}
+use Rattle.ff_lin.specs.Span.{combination, less, unit_at}
+use Rattle.ff_lin.specs.Space.{vectors_of, SpaceParts, pivot}
+
+-- Equations are kept with their entries from the last to the first.
+
+-- the place as far from the end of n places as place j is from their start; from n on the place itself
+abbrev pub mirror : ℕ → ℕ → ℕ
+mirror n j = cond (nat_lt j n) (n - 1 - j) j
+
+-- one at place f, and at the pivots what makes the products with the r vectors b zero
+abbrev pub null_vector : (R : RingOps) → ℕ → (ℕ → ℕ → R.carrier) → (ℕ → ℕ) → ℕ → ℕ → R.carrier
+null_vector R r b pivots f = less R (unit_at R f) R.one (combination R r (λ i. b i f) (λ i. unit_at R (pivots i)))
+
+-- the basis of the space with its entries from the last to the first
+abbrev pub mirrored : {E : Type 0} (K : Elements E) → SpaceParts E → ℕ → ℕ → K.carrier
+mirrored K s i j = vectors_of K s.basis i (mirror s.len j)
+
+-- the null vector of place f for the first i vectors of that basis
+abbrev pub null_before : {E : Type 0} (K : Elements E) → SpaceParts E → ℕ → ℕ → ℕ → K.carrier
+null_before K s i f = null_vector K.ring i (mirrored K s) (λ l. mirror s.len (pivot s l)) f
+
+-- the null vector of place f for that basis
+abbrev pub null_of : {E : Type 0} (K : Elements E) → SpaceParts E → ℕ → ℕ → K.carrier
+null_of K s = null_before K s (length s.basis)
