@@ -1,4 +1,4 @@
-use Rattle.std.specs.Prelude.{ℕ, ◌-◌, nat_lt, cond, length}
+use Rattle.std.specs.Prelude.{ℕ, ◌-◌, nat_lt, cond, List, length}
 use Rattle.ff_theory.specs.Ring.{RingOps, Elements}
 use Rattle.ff_lin.specs.Span.{combination, less, unit_at}
 use Rattle.ff_lin.specs.Space.{vectors_of, SpaceParts, pivot}
@@ -13,9 +13,17 @@ mirror n j = cond (nat_lt j n) (n - 1 - j) j
 abbrev pub null_vector : (R : RingOps) → ℕ → (ℕ → ℕ → R.carrier) → (ℕ → ℕ) → ℕ → ℕ → R.carrier
 null_vector R r b pivots f = less R (unit_at R f) R.one (combination R r (λ i. b i f) (λ i. unit_at R (pivots i)))
 
+-- rows of length n with their entries from the last to the first
+abbrev pub mirrored_rows : {E : Type 0} (K : Elements E) → ℕ → List (List E) → ℕ → ℕ → K.carrier
+mirrored_rows K n rows i j = vectors_of K rows i (mirror n j)
+
+-- entry j of each row, from the last row to the first
+abbrev pub mirrored_columns : {E : Type 0} (K : Elements E) → List (List E) → ℕ → ℕ → K.carrier
+mirrored_columns K rows j i = vectors_of K rows (mirror (length rows) i) j
+
 -- the basis of the space with its entries from the last to the first
 abbrev pub mirrored : {E : Type 0} (K : Elements E) → SpaceParts E → ℕ → ℕ → K.carrier
-mirrored K s i j = vectors_of K s.basis i (mirror s.len j)
+mirrored K s = mirrored_rows K s.len s.basis
 
 -- the null vector of place f for the first i vectors of that basis
 abbrev pub null_before : {E : Type 0} (K : Elements E) → SpaceParts E → ℕ → ℕ → ℕ → K.carrier

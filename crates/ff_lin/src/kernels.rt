@@ -4,7 +4,7 @@ ghost use Rattle.std.specs.List.{All};
 ghost use Rattle.ff_theory.specs.Ring.{IsElement};
 ghost use Rattle.ff_lin.specs.Span.{SameSpan, product};
 ghost use Rattle.ff_lin.specs.Space.{vector_of, vectors_of, IsVector, IsSpace, InSpace, HasExactly, IsOrthogonal, IsRelation, combination_of, rest_of, frobenius};
-ghost use Rattle.ff_lin.specs.Kernel.{mirror, mirrored, null_of};
+ghost use Rattle.ff_lin.specs.Kernel.{mirrored, mirrored_rows, mirrored_columns, null_of};
 
 use super::Space;
 use crate::rows::{column, reversed, rooted, zeros};
@@ -70,7 +70,7 @@ impl<E: Copy + Eq> Space<E> {
         requires rows { All (λ v. IsVector (K.elements k.now) n v.items) rows.now }
         ensures space { IfOk result (λ s. IsSpace (K.elements k.now) s) }
         ensures len { IfOk result (λ s. s.len ≡ n) }
-        ensures same { IfOk result (λ s. SameSpan (K.elements k.now).ring (length s.basis) (vectors_of (K.elements k.now) s.basis) (length rows.now) (λ i j. vectors_of (K.elements k.now) (map (λ v. v.items) rows.now) i (mirror n j))) }
+        ensures same { IfOk result (λ s. SameSpan (K.elements k.now).ring (length s.basis) (vectors_of (K.elements k.now) s.basis) (length rows.now) (mirrored_rows (K.elements k.now) n (map (λ v. v.items) rows.now))) }
     {
         let mut space = Space::zero(alloc, n);
         for row in rows {
@@ -104,7 +104,7 @@ impl<E: Copy + Eq> Space<E> {
         requires images { All (λ v. IsVector (K.elements k.now) m v.items) images.now }
         ensures space { IfOk result (λ s. IsSpace (K.elements k.now) s) }
         ensures len { IfOk result (λ s. s.len ≡ length images.now) }
-        ensures same { IfOk result (λ s. SameSpan (K.elements k.now).ring (length s.basis) (vectors_of (K.elements k.now) s.basis) m (λ j i. vectors_of (K.elements k.now) (map (λ v. v.items) images.now) (mirror (length images.now) i) j)) }
+        ensures same { IfOk result (λ s. SameSpan (K.elements k.now).ring (length s.basis) (vectors_of (K.elements k.now) s.basis) m (mirrored_columns (K.elements k.now) (map (λ v. v.items) images.now))) }
     {
         let mut space = Space::zero(alloc, images.len());
         for j in 0..m {
