@@ -1,15 +1,18 @@
-use Rattle.std.proofs.Common.{◌≡◌, ℕ, zero, suc, ◌+◌, ◌<◌, ◌≤◌, ◌⊎◌, inl, inr, ◌↔◌, List, [], ◌∷◌, length, get_or, refl, sym, ◌∙◌, ap, arith, subst}
+use Rattle.std.proofs.Common.{◌≡◌, ℕ, zero, suc, ◌+◌, ◌<◌, ◌≤◌, ◌⊎◌, inl, inr, ◌↔◌, List, [], ◌∷◌, length, map, get_or, refl, sym, ◌∙◌, ap, arith, subst, All}
 use Rattle.std.proofs.lemmas.Bool.{cases_lt}
+use Rattle.std.proofs.lemmas.List.{length-map}
+use Rattle.std.proofs.lemmas.List.Elements.{All-map}
 use Rattle.ff_theory.specs.Ring.{RingOps, IsCommRing, Elements, IsFiniteField}
 use Rattle.ff_theory.proofs.Sums.{sum-ext, sum-zero, sum-mul, sum-swap}
 use Rattle.ff_theory.proofs.Solver.{◌⊗◌, ring3, mul_zero, zero_mul}
 use Rattle.ff_lin.specs.Span.{combination, product, EndsAt, InSpan, SameSpan, reduced}
 use Rattle.ff_lin.specs.Space.{vector_of, vectors_of, SpaceParts, IsSpace, IsVector, InSpace, HasExactly, IsOrthogonal, IsRelation, combination_of, rest_of, frobenius, pivot}
-use Rattle.ff_lin.specs.Kernel.{mirror, mirrored, null_of}
+use Rattle.ff_lin.specs.Kernel.{mirror, mirrored, mirrored_rows, mirrored_columns, null_of, IsSolvedBy}
 use Rattle.ff_lin.proofs.Span.{span-same, span-inside, span-one}
 use Rattle.ff_lin.proofs.Kernel.{kernel-in, kernel-ends, kernel-product, product-span}
 use Rattle.ff_lin.proofs.Mirror.{mirror-mirror, mirror-inside}
 use Rattle.ff_lin.proofs.Echelon.{reduced-combination, reduced-inside, inside-reduced}
+use Rattle.ff_lin.proofs.Steps.{past}
 use Rattle.ff_lin.proofs.Frobenius.{power-in, power-out}
 
 module _ {E : Type 0} (K : Elements E) (laws : IsCommRing K.ring) where
@@ -29,7 +32,7 @@ module _ {E : Type 0} (K : Elements E) (laws : IsCommRing K.ring) where
 
     -- the null vectors span what is orthogonal to the mirrored basis
     pub solutions-exact : (t : SpaceParts E) → t.len ≡ s.len → SameSpan K.ring (length t.basis) (vectors_of K t.basis) s.len (null_of K s)
-        → HasExactly K t (λ v. (i : ℕ) → i < length s.basis → product K.ring s.len v (mirrored K s i) ≡ K.zero)
+        → IsSolvedBy K s t
     solutions-exact t len same v = (
       λ h. let k : InSpan K.ring s.len (null_of K s) v = span-inside K.ring laws (length t.basis) (vectors_of K t.basis) s.len (null_of K s) v same.into h in
           ((λ j l. kernel-ends K.ring laws s.len (length s.basis) (mirrored K s) place one_at zero_at places v k j (omega (arith, l, len))), kernel-product K.ring laws s.len (length s.basis) (mirrored K s) place one_at zero_at places v k),
@@ -39,7 +42,7 @@ module _ {E : Type 0} (K : Elements E) (laws : IsCommRing K.ring) where
 
   -- equations are given by any vectors with the same mirrored span
   pub equations-exact : (s t : SpaceParts E) (n c : ℕ) (w : ℕ → ℕ → K.carrier) → s.len ≡ n → SameSpan K.ring (length s.basis) (vectors_of K s.basis) c (λ i j. w i (mirror n j))
-      → HasExactly K t (λ v. (i : ℕ) → i < length s.basis → product K.ring s.len v (mirrored K s i) ≡ K.zero)
+      → IsSolvedBy K s t
       → HasExactly K t (λ v. (i : ℕ) → i < c → product K.ring n v (w i) ≡ K.zero)
   equations-exact s t n c w len same exact v = (λ h. (((exact v).0 h).0, into (((exact v).0 h).1)), λ h. (exact v).1 (h.0, back h.1))
     where
@@ -57,6 +60,11 @@ module _ {E : Type 0} (K : Elements E) (laws : IsCommRing K.ring) where
           (λ i q. sum-ext K.ring laws n (λ j. K.mul (v j) (w i (mirror n (mirror n j)))) (λ j. K.mul (v j) (w i j)) (λ j m. ap (λ t. K.mul (v j) (w i t)) (mirror-mirror n j)) ∙ h i q)
           (turned (same.into i l))
 
+  -- as the code has it
+  pub kernel_code : (s : SpaceParts E) (n c : ℕ) (rows : List (List E)) → s.len ≡ n → length rows ≡ c → SameSpan K.ring (length s.basis) (vectors_of K s.basis) c (mirrored_rows K n rows) → (t : SpaceParts E) → IsSolvedBy K s t → HasExactly K t (IsOrthogonal K n rows)
+  kernel_code s n c rows len count same t h =
+      equations-exact s t n (length rows) (vectors_of K rows) len (subst (λ c. SameSpan K.ring (length s.basis) (vectors_of K s.basis) c (mirrored_rows K n rows)) (sym count) same) h
+
   -- the products with the columns are the entries of the combination
   pub relations-exact : (t : SpaceParts E) (images : List (List E)) (m : ℕ) → ((i j : ℕ) → i < length images → m ≤ j → vectors_of K images i j ≡ K.zero)
       → HasExactly K t (λ v. (j : ℕ) → j < m → product K.ring (length images) v (λ i. vectors_of K images i j) ≡ K.zero) → HasExactly K t (IsRelation K images)
@@ -65,6 +73,12 @@ module _ {E : Type 0} (K : Elements E) (laws : IsCommRing K.ring) where
       all : ((j : ℕ) → j < m → product K.ring (length images) v (λ i. vectors_of K images i j) ≡ K.zero) → (j : ℕ) → (j < m) ⊎ (m ≤ j) → combination_of K images v j ≡ K.zero
       all h j (inl l) = h j l
       all h j (inr l) = sum-ext K.ring laws (length images) (λ i. K.mul (v i) (vectors_of K images i j)) (λ i. K.zero) (λ i q. ap (K.mul (v i)) (ends i j q l) ∙ mul_zero K.ring laws (v i)) ∙ sum-zero K.ring laws (length images)
+
+  pub relations_code : {V : Type 0} (items : V → List E) (s : SpaceParts E) (m : ℕ) (images : List V) → s.len ≡ length images → All (λ v. IsVector K m (items v)) images
+      → SameSpan K.ring (length s.basis) (vectors_of K s.basis) m (mirrored_columns K (map items images)) → (t : SpaceParts E) → IsSolvedBy K s t → HasExactly K t (IsRelation K (map items images))
+  relations_code items s m images len vectors same t h =
+      relations-exact t (map items images) m (λ i j l q. past K m (get_or (map items images) i []) j (All-map (IsVector K m) items images vectors i [] l) q)
+          (equations-exact s t (length (map items images)) m (λ j i. vectors_of K (map items images) i j) (len ∙ sym (length-map images items)) same h)
 
   -- relations of the rests are what the space takes in
   pub preimage-exact : (s t : SpaceParts E) (images rests : List (List E)) → IsSpace K s → length rests ≡ length images

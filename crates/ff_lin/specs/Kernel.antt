@@ -1,7 +1,7 @@
-use Rattle.std.specs.Prelude.{ℕ, ◌-◌, nat_lt, cond, List, length}
+use Rattle.std.specs.Prelude.{◌≡◌, ℕ, ◌-◌, ◌<◌, nat_lt, cond, List, length}
 use Rattle.ff_theory.specs.Ring.{RingOps, Elements}
-use Rattle.ff_lin.specs.Span.{combination, less, unit_at}
-use Rattle.ff_lin.specs.Space.{vectors_of, SpaceParts, pivot}
+use Rattle.ff_lin.specs.Span.{combination, less, product, unit_at}
+use Rattle.ff_lin.specs.Space.{vectors_of, SpaceParts, HasExactly, pivot}
 
 -- Equations are kept with their entries from the last to the first.
 
@@ -32,3 +32,7 @@ null_before K s i f = null_vector K.ring i (mirrored K s) (λ l. mirror s.len (p
 -- the null vector of place f for that basis
 abbrev pub null_of : {E : Type 0} (K : Elements E) → SpaceParts E → ℕ → ℕ → K.carrier
 null_of K s = null_before K s (length s.basis)
+
+-- t consists of the vectors whose product with each vector of the mirrored basis of s is zero
+abbrev pub IsSolvedBy : {E : Type 0} (K : Elements E) → SpaceParts E → SpaceParts E → Type 0
+IsSolvedBy K s t = HasExactly K t (λ v. (i : ℕ) → i < length s.basis → product K.ring s.len v (mirrored K s i) ≡ K.zero)

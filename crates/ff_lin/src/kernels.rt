@@ -2,9 +2,9 @@
 ghost use Rattle.std.specs.Prelude.{◌≡◌, ℕ, ◌<◌, length, map, IfOk, ◌↔◌};
 ghost use Rattle.std.specs.List.{All};
 ghost use Rattle.ff_theory.specs.Ring.{IsElement};
-ghost use Rattle.ff_lin.specs.Span.{SameSpan, product};
+ghost use Rattle.ff_lin.specs.Span.{SameSpan};
 ghost use Rattle.ff_lin.specs.Space.{vector_of, vectors_of, IsVector, IsSpace, InSpace, HasExactly, IsOrthogonal, IsRelation, combination_of, rest_of, frobenius};
-ghost use Rattle.ff_lin.specs.Kernel.{mirrored, mirrored_rows, mirrored_columns, null_of};
+ghost use Rattle.ff_lin.specs.Kernel.{IsSolvedBy, mirrored_rows, mirrored_columns, null_of};
 
 use super::Space;
 use crate::rows::{column, reversed, rooted, zeros};
@@ -51,7 +51,7 @@ impl<E: Copy + Eq> Space<E> {
         requires { IsSpace (K.elements k.now) self.now }
         ensures space { IfOk result (λ s. IsSpace (K.elements k.now) s) }
         ensures len { IfOk result (λ s. s.len ≡ self.now.len) }
-        ensures exact { IfOk result (λ s. HasExactly (K.elements k.now) s (λ v. (i : ℕ) → i < length self.now.basis → product (K.elements k.now).ring self.now.len v (mirrored (K.elements k.now) self.now i) ≡ (K.elements k.now).zero)) }
+        ensures exact { IfOk result (IsSolvedBy (K.elements k.now) self.now) }
     {
         let mut space = Space::zero(alloc, self.len);
         for f in 0..self.len {
