@@ -11,6 +11,10 @@ module _ (R : RingOps) (laws : IsCommRing R) where
   power-zero zero l = absurd (omega arith)
   power-zero (suc n) l = zero_mul R laws (power R R.zero n)
 
+  pub power-one : (n : ℕ) → power R R.one n ≡ R.one
+  power-one zero = refl
+  power-one (suc n) = ap (R.mul R.one) (power-one n) ∙ laws.mul_one R.one
+
   pub power-mul : (a b : R.carrier) (n : ℕ) → power R (R.mul a b) n ≡ R.mul (power R a n) (power R b n)
   power-mul a b zero = ring1 R laws (λ a. unit) (λ a. unit ⊗ unit) refl R.one
   power-mul a b (suc n) = ap (R.mul (R.mul a b)) (power-mul a b n) ∙ ring4 R laws (λ a b x y. a ⊗ b ⊗ (x ⊗ y)) (λ a b x y. a ⊗ x ⊗ (b ⊗ y)) refl a b (power R a n) (power R b n)

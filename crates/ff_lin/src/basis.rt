@@ -118,7 +118,7 @@ impl<E: Copy + Eq> Space<E> {
     }
 
     /// All combinations of the space's vectors and the rows.
-    fn extend<K: FiniteField<E = E>>(
+    pub(crate) fn extend<K: FiniteField<E = E>>(
         self,
         alloc: Global,
         k: &K,

@@ -3,11 +3,11 @@ ghost use Rattle.std.specs.Prelude.{◌≡◌, ℕ, ◌<◌, length, map, IfOk, 
 ghost use Rattle.std.specs.List.{All};
 ghost use Rattle.ff_theory.specs.Ring.{IsElement};
 ghost use Rattle.ff_lin.specs.Span.{SameSpan};
-ghost use Rattle.ff_lin.specs.Space.{vector_of, vectors_of, IsVector, IsSpace, InSpace, HasExactly, IsOrthogonal, IsRelation, combination_of, rest_of, frobenius};
+ghost use Rattle.ff_lin.specs.Space.{vector_of, vectors_of, IsVector, IsSpace, InSpace, HasExactly, IsOrthogonal, IsRelation, IsSum, combination_of, combinations_of, rest_of, frobenius};
 ghost use Rattle.ff_lin.specs.Kernel.{IsSolvedBy, mirrored_rows, mirrored_columns, null_of};
 
 use super::Space;
-use crate::rows::{column, reversed, rooted, zeros};
+use crate::rows::{column, combine, reversed, rooted_rows, zeros};
 use ff_alg::{FiniteField, NoMemory, sub};
 use std::alloc::Global;
 
@@ -162,5 +162,105 @@ impl<E: Copy + Eq> Space<E> {
         ensures exact { IfOk result (λ s. HasExactly (K.elements k.now) s (λ v. InSpace (K.elements k.now) self.now (combination_of (K.elements k.now) (map (λ v. v.items) images.now) v))) }
     {
         Space::relations(alloc, k, self.len, &self.rests(alloc, k, images)?)
+    }
+
+    /// All vectors whose entries to the power of the characteristic make a vector of the space.
+    pub fn roots<K: FiniteField<E = E>>(&self, alloc: Global, k: &K) -> Result<Space<E>, NoMemory>
+        requires { IsSpace (K.elements k.now) self.now }
+        ensures space { IfOk result (λ s. IsSpace (K.elements k.now) s) }
+        ensures len { IfOk result (λ s. s.len ≡ self.now.len) }
+        ensures exact { IfOk result (λ s. (v : ℕ → (K.elements k.now).carrier) → InSpace (K.elements k.now) s v ↔ InSpace (K.elements k.now) self.now (frobenius (K.elements k.now) v)) }
+    {
+        Ok(Space {
+            len: self.len,
+            basis: rooted_rows(alloc, k, &self.basis)?,
+            pivots: Vec::from_slice(alloc, &self.pivots)?,
+        })
+    }
+
+    /// All `v` with the sum of `frob(v_i)*images[i]` in the space; the images have its length.
+    pub fn semi_preimage<K: FiniteField<E = E>>(
+        &self,
+        alloc: Global,
+        k: &K,
+        images: &[Vec<E>],
+    ) -> Result<Space<E>, NoMemory>
+        requires space { IsSpace (K.elements k.now) self.now }
+        requires images { All (λ v. IsVector (K.elements k.now) self.now.len v.items) images.now }
+        ensures space { IfOk result (λ s. IsSpace (K.elements k.now) s) }
+        ensures len { IfOk result (λ s. s.len ≡ length images.now) }
+        ensures exact { IfOk result (λ s. HasExactly (K.elements k.now) s (λ v. InSpace (K.elements k.now) self.now (combination_of (K.elements k.now) (map (λ v. v.items) images.now) (frobenius (K.elements k.now) v)))) }
+    {
+        self.preimage(alloc, k, images)?.roots(alloc, k)
+    }
+
+    /// All `v` with the sum of `frob(v_i)*images[i]` equal to zero; the images have length `m`.
+    pub fn semi_kernel<K: FiniteField<E = E>>(
+        alloc: Global,
+        k: &K,
+        m: usize,
+        images: &[Vec<E>],
+    ) -> Result<Space<E>, NoMemory>
+        requires images { All (λ v. IsVector (K.elements k.now) m v.items) images.now }
+        ensures space { IfOk result (λ s. IsSpace (K.elements k.now) s) }
+        ensures len { IfOk result (λ s. s.len ≡ length images.now) }
+        ensures exact { IfOk result (λ s. HasExactly (K.elements k.now) s (λ v. IsRelation (K.elements k.now) (map (λ v. v.items) images.now) (frobenius (K.elements k.now) v))) }
+    {
+        Space::relations(alloc, k, m, images)?.roots(alloc, k)
+    }
+
+    /// The span of the combinations of the basis with the given rows of coefficients.
+    fn combinations<K: FiniteField<E = E>>(
+        &self,
+        alloc: Global,
+        k: &K,
+        coefficients: &[Vec<E>],
+    ) -> Result<Space<E>, NoMemory>
+        requires space { IsSpace (K.elements k.now) self.now }
+        requires coefficients { All (λ c. IsVector (K.elements k.now) (length self.now.basis) c.items) coefficients.now }
+        ensures space { IfOk result (λ s. IsSpace (K.elements k.now) s) }
+        ensures len { IfOk result (λ s. s.len ≡ self.now.len) }
+        ensures same { IfOk result (λ s. SameSpan (K.elements k.now).ring (length s.basis) (vectors_of (K.elements k.now) s.basis) (length coefficients.now) (combinations_of (K.elements k.now) self.now.basis (map (λ c. c.items) coefficients.now))) }
+    {
+        let mut space = Space::zero(alloc, self.len);
+        for c in coefficients {
+            space = space.insert(k, combine(alloc, k, self.len, c, &self.basis)?)?;
+        }
+        Ok(space)
+    }
+
+    /// The common vectors of two spaces of one length.
+    pub fn meet<K: FiniteField<E = E>>(
+        &self,
+        alloc: Global,
+        k: &K,
+        b: &Space<E>,
+    ) -> Result<Space<E>, NoMemory>
+        requires space { IsSpace (K.elements k.now) self.now }
+        requires other { IsSpace (K.elements k.now) b.now }
+        requires len { self.now.len ≡ b.now.len }
+        ensures space { IfOk result (λ s. IsSpace (K.elements k.now) s) }
+        ensures len { IfOk result (λ s. s.len ≡ self.now.len) }
+        ensures exact { IfOk result (λ s. (v : ℕ → (K.elements k.now).carrier) → InSpace (K.elements k.now) s v ↔ (InSpace (K.elements k.now) self.now v × InSpace (K.elements k.now) b.now v)) }
+    {
+        let coefficients = b.preimage(alloc, k, &self.basis)?;
+        self.combinations(alloc, k, coefficients.basis())
+    }
+
+    /// All sums of vectors of two spaces of one length.
+    pub fn sum<K: FiniteField<E = E>>(
+        &self,
+        alloc: Global,
+        k: &K,
+        b: &Space<E>,
+    ) -> Result<Space<E>, NoMemory>
+        requires space { IsSpace (K.elements k.now) self.now }
+        requires other { IsSpace (K.elements k.now) b.now }
+        requires len { self.now.len ≡ b.now.len }
+        ensures space { IfOk result (λ s. IsSpace (K.elements k.now) s) }
+        ensures len { IfOk result (λ s. s.len ≡ self.now.len) }
+        ensures exact { IfOk result (λ s. (v : ℕ → (K.elements k.now).carrier) → InSpace (K.elements k.now) s v ↔ IsSum (K.elements k.now) (InSpace (K.elements k.now) self.now) (InSpace (K.elements k.now) b.now) v) }
+    {
+        Space::span(alloc, k, self.len, &self.basis)?.extend(alloc, k, &b.basis)
     }
 }

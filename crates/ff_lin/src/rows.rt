@@ -3,7 +3,7 @@ ghost use Rattle.std.specs.Prelude.{◌≡◌, ℕ, ◌<◌, ◌≤◌, ◌-◌,
 ghost use Rattle.std.specs.List.{All};
 ghost use Rattle.ff_theory.specs.Ring.{IsElement, power};
 ghost use Rattle.ff_lin.specs.Span.{combination, less};
-ghost use Rattle.ff_lin.specs.Space.{vector_of, vectors_of, IsVector, combination_of, frobenius};
+ghost use Rattle.ff_lin.specs.Space.{vector_of, vectors_of, IsVector, AreRoots, combination_of, frobenius};
 
 use ff_alg::{FiniteField, NoMemory, is_zero};
 use std::alloc::Global;
@@ -211,5 +211,22 @@ pub fn rooted<E: Copy + Eq, K: FiniteField<E = E>>(
 {
     let mut roots = Vec::from_slice(alloc, v)?;
     take_roots(k, &mut roots);
+    Ok(roots)
+}
+
+/// The rows of the roots of the entries by the characteristic.
+pub fn rooted_rows<E: Copy + Eq, K: FiniteField<E = E>>(
+    alloc: Global,
+    k: &K,
+    rows: &[Vec<E>],
+) -> Result<Vec<Vec<E>>, NoMemory>
+    requires { All (λ v. All (IsElement (K.elements k.now)) v.items) rows.now }
+    ensures len { IfOk result (λ r. length r.items ≡ length rows.now) }
+    ensures value { IfOk result (λ r. AreRoots (K.elements k.now) (map (λ v. v.items) rows.now) (length rows.now) (map (λ v. v.items) r.items)) }
+{
+    let mut roots = Vec::with_capacity(alloc, rows.len())?;
+    for row in rows {
+        roots.push(rooted(alloc, k, row)?)?;
+    }
     Ok(roots)
 }

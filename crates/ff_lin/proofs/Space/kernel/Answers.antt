@@ -13,5 +13,5 @@ returns-clause-exact g c =
     let rows = map items c.args.rows.now in
     let s = c.in_ok-mirrored_span.field-0 in
     ok_map (IsSolvedBy K s) (λ t. HasExactly K t (IsOrthogonal K c.args.n rows)) c.solutions-2.result
-        (kernel_code K (g.met.K.Ring.laws c.args.k.now) s c.args.n (length c.args.rows.now) rows c.in_ok-mirrored_span.ensures.len (length-map c.args.rows.now items) c.in_ok-mirrored_span.ensures.same)
-        c.solutions-2.ensures.exact
+    (kernel_code K (g.met.K.Ring.laws c.args.k.now) s c.args.n (length c.args.rows.now) rows c.in_ok-mirrored_span.ensures.len (length-map c.args.rows.now items) c.in_ok-mirrored_span.ensures.same)
+    c.solutions-2.ensures.exact

@@ -9,7 +9,7 @@ pub insert-requires-clause-v : goal.insert-requires-clause-v
 insert-requires-clause-v g c =
     let K = g.K.Ring.elements c.args.k.now in
     subst (λ n. IsVector K n c.in_ok-column.field-0.items) (sym c.loop-j.invariant.len)
-        (column_code K (λ v. v.items) c.args.images.now c.args.m c.loop-j.j c.in_ok-column.field-0.items c.requires.images c.loop-j-test.true c.in_ok-column.ensures.len c.in_ok-column.ensures.value).0
+    (column_code K (λ v. v.items) c.args.images.now c.args.m c.loop-j.j c.in_ok-column.field-0.items c.requires.images c.loop-j-test.true c.in_ok-column.ensures.len c.in_ok-column.ensures.value).0
 
 pub loop-j-preserved : goal.loop-j-preserved
 loop-j-preserved g c =

@@ -11,5 +11,5 @@ returns-clause-exact g c =
     let items : Vec g.row.E.Denot Global → _ = λ v. v.items in
     let s = c.in_ok-mirrored_columns.field-0 in
     ok_map (IsSolvedBy K s) (λ t. HasExactly K t (IsRelation K (map items c.args.images.now))) c.solutions-2.result
-        (relations_code K (g.met.K.Ring.laws c.args.k.now) items s c.args.m c.args.images.now c.in_ok-mirrored_columns.ensures.len c.requires.images c.in_ok-mirrored_columns.ensures.same)
-        c.solutions-2.ensures.exact
+    (relations_code K (g.met.K.Ring.laws c.args.k.now) items s c.args.m c.args.images.now c.in_ok-mirrored_columns.ensures.len c.requires.images c.in_ok-mirrored_columns.ensures.same)
+    c.solutions-2.ensures.exact

@@ -19,4 +19,4 @@ pub returns-clause-exact : goal.returns-clause-exact
 returns-clause-exact g c =
     let K = g.K.Ring.elements c.args.k.now in
     solutions-exact K (g.met.K.Ring.laws c.args.k.now) c.args.self.now c.requires c.loop-f.space c.loop-f.invariant.len
-        (subst (λ n. SameSpan K.ring (length c.loop-f.space.basis) (vectors_of K c.loop-f.space.basis) n (null_of K c.args.self.now)) (omega (arith, ap (λ (t : SpaceParts g.row.E.Denot). t.len) c.self.view_is)) c.loop-f.invariant.same)
+    (subst (λ n. SameSpan K.ring (length c.loop-f.space.basis) (vectors_of K c.loop-f.space.basis) n (null_of K c.args.self.now)) (omega (arith, ap (λ (t : SpaceParts g.row.E.Denot). t.len) c.self.view_is)) c.loop-f.invariant.same)
