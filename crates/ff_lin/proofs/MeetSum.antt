@@ -1,6 +1,6 @@
 use Rattle.std.proofs.Common.{◌≡◌, ℕ, zero, suc, ◌+◌, ◌<◌, ◌≤◌, ◌⊎◌, inl, inr, ◌↔◌, List, [], ◌∷◌, ◌++◌, length, map, get_or, refl, sym, ◌∙◌, ap, arith, subst}
 use Rattle.std.proofs.lemmas.Bool.{cases_lt, cond_below, cond_above}
-use Rattle.std.proofs.lemmas.List.{get_or_append_left, get_or-append-add, length-append}
+use Rattle.std.proofs.lemmas.List.{get_or_append_left, get_or-append-add, length-append, length-map}
 use Rattle.std.proofs.Math.Dec.{ltb}
 use Rattle.std.proofs.Math.Bool.{cond}
 use Rattle.ff_theory.specs.Ring.{RingOps, IsCommRing, Elements}
@@ -105,3 +105,15 @@ module _ {E : Type 0} (K : Elements E) (laws : IsCommRing K.ring) where
         record { left = k.left; right = k.right; in_left = span-inside K.ring laws (length t.basis) (vectors_of K t.basis) (length a.basis) (vectors_of K a.basis) k.left same.into k.in_left; in_right = k.in_right; sum = k.sum },
       λ h. span-inside K.ring laws (length (t.basis ++ b.basis)) (vectors_of K (t.basis ++ b.basis)) (length s.basis) (vectors_of K s.basis) v all.back
         (append-together t.basis b.basis v (record { left = h.left; right = h.right; in_left = span-inside K.ring laws (length a.basis) (vectors_of K a.basis) (length t.basis) (vectors_of K t.basis) h.left same.back h.in_left; in_right = h.in_right; sum = h.sum })))
+
+  -- the same, as the code has it
+  pub meet_code : {V : Type 0} (items : V → List E) (a b c : SpaceParts E) (given old rows : List V) → given ≡ old → map items old ≡ a.basis → c.len ≡ length given → HasExactly K c (λ v. InSpace K b (combination_of K (map items given) v)) → map items rows ≡ c.basis
+      → (s : SpaceParts E) → SameSpan K.ring (length s.basis) (vectors_of K s.basis) (length rows) (combinations_of K a.basis (map items rows)) → (v : ℕ → K.carrier) → InSpace K s v ↔ (InSpace K a v × InSpace K b v)
+  meet_code items a b c given old rows hgiven hold len exact hrows s same =
+      meet-exact a b c s (len ∙ sym (length-map given items) ∙ ap length given_is)
+          (subst (λ r. HasExactly K c (λ v. InSpace K b (combination_of K r v))) given_is exact)
+          (subst (λ r. SameSpan K.ring (length s.basis) (vectors_of K s.basis) (length r) (combinations_of K a.basis r)) hrows
+            (subst (λ n. SameSpan K.ring (length s.basis) (vectors_of K s.basis) n (combinations_of K a.basis (map items rows))) (sym (length-map rows items)) same))
+    where
+      given_is : map items given ≡ a.basis
+      given_is = ap (map items) hgiven ∙ hold
