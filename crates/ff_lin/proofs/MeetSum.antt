@@ -85,35 +85,37 @@ module _ {E : Type 0} (K : Elements E) (laws : IsCommRing K.ring) where
       sum = λ j. h.sum j ∙ ap (λ n. combination K.ring n h.coefficients (vectors_of K (a ++ b)) j) (length-append a b)
           ∙ sum-split K.ring laws (length a) (length b) (λ i. K.mul (h.coefficients i) (vectors_of K (a ++ b) i j))
           ∙ ap (λ t. K.add t (sum_below K.ring (length b) (λ i. K.mul (h.coefficients (length a + i)) (vectors_of K (a ++ b) (length a + i) j))))
-            (sum-ext K.ring laws (length a) (λ i. K.mul (h.coefficients i) (vectors_of K (a ++ b) i j)) (λ i. K.mul (h.coefficients i) (vectors_of K a i j)) (λ i l. ap (K.mul (h.coefficients i)) (left-is i j l)))
+          (sum-ext K.ring laws (length a) (λ i. K.mul (h.coefficients i) (vectors_of K (a ++ b) i j)) (λ i. K.mul (h.coefficients i) (vectors_of K a i j)) (λ i l. ap (K.mul (h.coefficients i)) (left-is i j l)))
           ∙ ap (K.add (combination K.ring (length a) h.coefficients (vectors_of K a) j))
-            (sum-ext K.ring laws (length b) (λ i. K.mul (h.coefficients (length a + i)) (vectors_of K (a ++ b) (length a + i) j)) (λ i. K.mul (h.coefficients (length a + i)) (vectors_of K b i j)) (λ i l. ap (K.mul (h.coefficients (length a + i))) (right-is i j)));
+          (sum-ext K.ring laws (length b) (λ i. K.mul (h.coefficients (length a + i)) (vectors_of K (a ++ b) (length a + i) j)) (λ i. K.mul (h.coefficients (length a + i)) (vectors_of K b i j)) (λ i l. ap (K.mul (h.coefficients (length a + i))) (right-is i j)));
     }
 
     pub append-together : IsSum K (InSpan K.ring (length a) (vectors_of K a)) (InSpan K.ring (length b) (vectors_of K b)) v → InSpan K.ring (length (a ++ b)) (vectors_of K (a ++ b)) v
     append-together h = span-same K.ring laws (length (a ++ b)) (vectors_of K (a ++ b)) (λ j. K.add (K.mul K.one (h.left j)) (h.right j)) v
         (λ j. h.sum j ∙ ring2 K.ring laws (λ a b. a ⊕ b) (λ a b. unit ⊗ a ⊕ b) refl (h.left j) (h.right j))
         (span-more K.ring laws (length (a ++ b)) (vectors_of K (a ++ b)) K.one h.left h.right
-          (span-inside K.ring laws (length a) (vectors_of K a) (length (a ++ b)) (vectors_of K (a ++ b)) h.left
-            (λ i l. span-same K.ring laws (length (a ++ b)) (vectors_of K (a ++ b)) (vectors_of K (a ++ b) i) (vectors_of K a i) (λ j. sym (left-is i j l)) (span-one K.ring laws (length (a ++ b)) (vectors_of K (a ++ b)) i (omega (arith, l, length-append a b)))) h.in_left)
-          (span-inside K.ring laws (length b) (vectors_of K b) (length (a ++ b)) (vectors_of K (a ++ b)) h.right
-            (λ i l. span-same K.ring laws (length (a ++ b)) (vectors_of K (a ++ b)) (vectors_of K (a ++ b) (length a + i)) (vectors_of K b i) (λ j. sym (right-is i j)) (span-one K.ring laws (length (a ++ b)) (vectors_of K (a ++ b)) (length a + i) (omega (arith, l, length-append a b)))) h.in_right))
+        (span-inside K.ring laws (length a) (vectors_of K a) (length (a ++ b)) (vectors_of K (a ++ b)) h.left
+        (λ i l. span-same K.ring laws (length (a ++ b)) (vectors_of K (a ++ b)) (vectors_of K (a ++ b) i) (vectors_of K a i) (λ j. sym (left-is i j l)) (span-one K.ring laws (length (a ++ b)) (vectors_of K (a ++ b)) i (omega (arith, l, length-append a b)))) h.in_left)
+        (span-inside K.ring laws (length b) (vectors_of K b) (length (a ++ b)) (vectors_of K (a ++ b)) h.right
+        (λ i l. span-same K.ring laws (length (a ++ b)) (vectors_of K (a ++ b)) (vectors_of K (a ++ b) (length a + i)) (vectors_of K b i) (λ j. sym (right-is i j)) (span-one K.ring laws (length (a ++ b)) (vectors_of K (a ++ b)) (length a + i) (omega (arith, l, length-append a b)))) h.in_right))
 
   -- s has the combinations of the basis of t, which is that of a, and of the basis of b
   pub sum-exact : (a b t s : SpaceParts E) → SameSpace K t.basis a.basis → SameSpace K s.basis (t.basis ++ b.basis) → (v : ℕ → K.carrier) → InSpace K s v ↔ IsSum K (InSpace K a) (InSpace K b) v
-  sum-exact a b t s same all v = (λ h. let k = append-apart t.basis b.basis v (span-inside K.ring laws (length s.basis) (vectors_of K s.basis) (length (t.basis ++ b.basis)) (vectors_of K (t.basis ++ b.basis)) v all.into h) in
+  sum-exact a b t s same all v = (
+    λ h. let k = append-apart t.basis b.basis v (span-inside K.ring laws (length s.basis) (vectors_of K s.basis) (length (t.basis ++ b.basis)) (vectors_of K (t.basis ++ b.basis)) v all.into h) in
         record { left = k.left; right = k.right; in_left = span-inside K.ring laws (length t.basis) (vectors_of K t.basis) (length a.basis) (vectors_of K a.basis) k.left same.into k.in_left; in_right = k.in_right; sum = k.sum },
-      λ h. span-inside K.ring laws (length (t.basis ++ b.basis)) (vectors_of K (t.basis ++ b.basis)) (length s.basis) (vectors_of K s.basis) v all.back
-        (append-together t.basis b.basis v (record { left = h.left; right = h.right; in_left = span-inside K.ring laws (length a.basis) (vectors_of K a.basis) (length t.basis) (vectors_of K t.basis) h.left same.back h.in_left; in_right = h.in_right; sum = h.sum })))
+    λ h. span-inside K.ring laws (length (t.basis ++ b.basis)) (vectors_of K (t.basis ++ b.basis)) (length s.basis) (vectors_of K s.basis) v all.back
+        (append-together t.basis b.basis v (record { left = h.left; right = h.right; in_left = span-inside K.ring laws (length a.basis) (vectors_of K a.basis) (length t.basis) (vectors_of K t.basis) h.left same.back h.in_left; in_right = h.in_right; sum = h.sum })),
+  )
 
   -- the same, as the code has it
   pub meet_code : {V : Type 0} (items : V → List E) (a b c : SpaceParts E) (given old rows : List V) → given ≡ old → map items old ≡ a.basis → c.len ≡ length given → HasExactly K c (λ v. InSpace K b (combination_of K (map items given) v)) → map items rows ≡ c.basis
       → (s : SpaceParts E) → SameSpan K.ring (length s.basis) (vectors_of K s.basis) (length rows) (combinations_of K a.basis (map items rows)) → (v : ℕ → K.carrier) → InSpace K s v ↔ (InSpace K a v × InSpace K b v)
   meet_code items a b c given old rows hgiven hold len exact hrows s same =
       meet-exact a b c s (len ∙ sym (length-map given items) ∙ ap length given_is)
-          (subst (λ r. HasExactly K c (λ v. InSpace K b (combination_of K r v))) given_is exact)
-          (subst (λ r. SameSpan K.ring (length s.basis) (vectors_of K s.basis) (length r) (combinations_of K a.basis r)) hrows
-            (subst (λ n. SameSpan K.ring (length s.basis) (vectors_of K s.basis) n (combinations_of K a.basis (map items rows))) (sym (length-map rows items)) same))
+      (subst (λ r. HasExactly K c (λ v. InSpace K b (combination_of K r v))) given_is exact)
+      (subst (λ r. SameSpan K.ring (length s.basis) (vectors_of K s.basis) (length r) (combinations_of K a.basis r)) hrows
+      (subst (λ n. SameSpan K.ring (length s.basis) (vectors_of K s.basis) n (combinations_of K a.basis (map items rows))) (sym (length-map rows items)) same))
     where
       given_is : map items given ≡ a.basis
       given_is = ap (map items) hgiven ∙ hold

@@ -126,15 +126,17 @@ module _ {E : Type 0} (K : Elements E) (laws : IsCommRing K.ring) where
     }
 
     pub roots-exact : (v : ℕ → K.carrier) → InSpace K t v ↔ InSpace K s (frobenius K v)
-    roots-exact v =
-        (λ h. power-in K.field laws finite (length s.basis) (vectors_of K t.basis) (vectors_of K s.basis) (pivot s) space.echelon roots.powers v (subst (λ n. InSpan K.ring n (vectors_of K t.basis) v) count h),
-         λ h. subst (λ n. InSpan K.ring n (vectors_of K t.basis) v) (sym count) (power-out K.field laws finite (length s.basis) (vectors_of K t.basis) (vectors_of K s.basis) (pivot s) space.echelon roots.powers v h))
+    roots-exact v = (
+      λ h. power-in K.field laws finite (length s.basis) (vectors_of K t.basis) (vectors_of K s.basis) (pivot s) space.echelon roots.powers v (subst (λ n. InSpan K.ring n (vectors_of K t.basis) v) count h),
+      λ h. subst (λ n. InSpan K.ring n (vectors_of K t.basis) v) (sym count) (power-out K.field laws finite (length s.basis) (vectors_of K t.basis) (vectors_of K s.basis) (pivot s) space.echelon roots.powers v h),
+    )
 
   -- the roots of a space of vectors with a property
   pub semi-exact : IsFiniteField K.field → (s t : SpaceParts E) (P : (ℕ → K.carrier) → Type 0) → t.len ≡ s.len → HasExactly K s P → ((v : ℕ → K.carrier) → InSpace K t v ↔ InSpace K s (frobenius K v)) → HasExactly K t (λ v. P (frobenius K v))
-  semi-exact finite s t P len exact roots v =
-      (λ h. let k = (exact (frobenius K v)).0 ((roots v).0 h) in ((λ j l. finite.one_root (v j) K.zero (k.0 j (omega (arith, l, len)) ∙ sym (power-zero K.ring laws K.characteristic finite.least.positive))), k.1),
-       λ h. (roots v).1 ((exact (frobenius K v)).1 ((λ j l. ap (λ t. power K.ring t K.characteristic) (h.0 j (omega (arith, l, len))) ∙ power-zero K.ring laws K.characteristic finite.least.positive), h.1)))
+  semi-exact finite s t P len exact roots v = (
+    λ h. let k = (exact (frobenius K v)).0 ((roots v).0 h) in ((λ j l. finite.one_root (v j) K.zero (k.0 j (omega (arith, l, len)) ∙ sym (power-zero K.ring laws K.characteristic finite.least.positive))), k.1),
+    λ h. (roots v).1 ((exact (frobenius K v)).1 ((λ j l. ap (λ t. power K.ring t K.characteristic) (h.0 j (omega (arith, l, len))) ∙ power-zero K.ring laws K.characteristic finite.least.positive), h.1)),
+  )
 
   pub roots_code : IsFiniteField K.field → {V : Type 0} (items : V → List E) (s t : SpaceParts E) (old given roots : List V) → IsSpace K s → t.len ≡ s.len → t.basis ≡ map items roots → t.pivots ≡ s.pivots → map items old ≡ s.basis → given ≡ old
       → length roots ≡ length given → AreRoots K (map items given) (length given) (map items roots) → IsSpace K t × ((v : ℕ → K.carrier) → InSpace K t v ↔ InSpace K s (frobenius K v))

@@ -1,7 +1,7 @@
-use Rattle.std.specs.Prelude.{◌≡◌, ℕ, ◌-◌, ◌<◌, nat_lt, cond, List, length}
+use Rattle.std.specs.Prelude.{◌≡◌, ℕ, zero, suc, ◌-◌, ◌<◌, ◌⊎◌, nat_lt, cond, List, [], length, get_or, drop}
 use Rattle.ff_theory.specs.Ring.{RingOps, Elements}
 use Rattle.ff_lin.specs.Span.{combination, less, product, unit_at}
-use Rattle.ff_lin.specs.Space.{vectors_of, SpaceParts, HasExactly, pivot}
+use Rattle.ff_lin.specs.Space.{vector_of, vectors_of, SpaceParts, HasExactly, pivot}
 
 -- Equations are kept with their entries from the last to the first.
 
@@ -36,3 +36,18 @@ null_of K s = null_before K s (length s.basis)
 -- t consists of the vectors whose product with each vector of the mirrored basis of s is zero
 abbrev pub IsSolvedBy : {E : Type 0} (K : Elements E) → SpaceParts E → SpaceParts E → Type 0
 IsSolvedBy K s t = HasExactly K t (λ v. (i : ℕ) → i < length s.basis → product K.ring s.len v (mirrored K s i) ≡ K.zero)
+
+-- minus the right side of equations, and then their columns
+abbrev pub augmented_of : {E : Type 0} (K : Elements E) → List (List E) → List E → ℕ → ℕ → K.carrier
+augmented_of K cols rhs zero j = K.neg (vector_of K rhs j)
+augmented_of K cols rhs (suc i) j = vectors_of K cols i j
+
+-- no basis vector begins at place 0
+abbrev pub BeginsLater : {E : Type 0} → SpaceParts E → Type 0
+BeginsLater s = (length s.basis ≡ 0) ⊎ (0 < pivot s 0)
+
+-- w is the basis vector that begins at place 0, without its first entry
+pub record IsTailOfFirst {E : Type 0} (s : SpaceParts E) (w : List E) : Type 0 where
+  pub some : 0 < length s.basis
+  pub place : pivot s 0 ≡ 0
+  pub tail : w ≡ drop 1 (get_or s.basis 0 [])

@@ -62,6 +62,21 @@ pub fn monic<E: Copy + Eq, K: FiniteField<E = E>>(k: &K, p: usize, v: Vec<E>) ->
     scaled
 }
 
+/// The negatives of the entries.
+pub fn negated<E: Copy + Eq, K: FiniteField<E = E>>(
+    alloc: Global,
+    k: &K,
+    v: &[E],
+) -> Result<Vec<E>, NoMemory>
+    requires v { All (IsElement (K.elements k.now)) v.now }
+    ensures vector { IfOk result (λ w. IsVector (K.elements k.now) (length v.now) w.items) }
+    ensures value { IfOk result (λ w. (j : ℕ) → vector_of (K.elements k.now) w.items j ≡ (K.elements k.now).neg (vector_of (K.elements k.now) v.now j)) }
+{
+    let mut negatives = Vec::from_slice(alloc, v)?;
+    scale(k, &mut negatives, k.neg(k.one()));
+    Ok(negatives)
+}
+
 /// The place of the first entry that is not zero, and the length where there is none.
 pub fn leading<E: Copy + Eq, K: FiniteField<E = E>>(k: &K, v: &[E]) -> usize
     requires v { All (IsElement (K.elements k.now)) v.now }

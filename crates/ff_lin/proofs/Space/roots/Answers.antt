@@ -16,9 +16,9 @@ returns-clause-space g c =
     let items : Vec g.row.E.Denot Global → _ = λ v. v.items in
     let s = c.args.self.now in
     (roots_code K (g.met.K.Ring.laws c.args.k.now) (g.met.K.FiniteField.is_finite_field c.args.k.now) items s (record { len = c.self.inside.len; basis = map items c.in_ok-rooted_rows.field-0.items; pivots = c.in_ok-from_slice.field-0.items })
-        c.self.inside.basis.items c.deref.result.now c.in_ok-rooted_rows.field-0.items c.requires (ap (λ (t : SpaceParts g.row.E.Denot). t.len) c.self.view_is) refl
-        (c.in_ok-from_slice.ensures.items ∙ c.deref-2.ensures.value ∙ ap (λ (t : SpaceParts g.row.E.Denot). t.pivots) c.self.view_is) (ap (λ (t : SpaceParts g.row.E.Denot). t.basis) c.self.view_is) c.deref.ensures.value
-        c.in_ok-rooted_rows.ensures.len c.in_ok-rooted_rows.ensures.value).0
+    c.self.inside.basis.items c.deref.result.now c.in_ok-rooted_rows.field-0.items c.requires (ap (λ (t : SpaceParts g.row.E.Denot). t.len) c.self.view_is) refl
+    (c.in_ok-from_slice.ensures.items ∙ c.deref-2.ensures.value ∙ ap (λ (t : SpaceParts g.row.E.Denot). t.pivots) c.self.view_is) (ap (λ (t : SpaceParts g.row.E.Denot). t.basis) c.self.view_is) c.deref.ensures.value
+    c.in_ok-rooted_rows.ensures.len c.in_ok-rooted_rows.ensures.value).0
 
 pub returns-clause-exact : goal.returns-clause-exact
 returns-clause-exact g c =
@@ -26,6 +26,6 @@ returns-clause-exact g c =
     let items : Vec g.row.E.Denot Global → _ = λ v. v.items in
     let s = c.args.self.now in
     (roots_code K (g.met.K.Ring.laws c.args.k.now) (g.met.K.FiniteField.is_finite_field c.args.k.now) items s (record { len = c.self.inside.len; basis = map items c.in_ok-rooted_rows.field-0.items; pivots = c.in_ok-from_slice.field-0.items })
-        c.self.inside.basis.items c.deref.result.now c.in_ok-rooted_rows.field-0.items c.requires (ap (λ (t : SpaceParts g.row.E.Denot). t.len) c.self.view_is) refl
-        (c.in_ok-from_slice.ensures.items ∙ c.deref-2.ensures.value ∙ ap (λ (t : SpaceParts g.row.E.Denot). t.pivots) c.self.view_is) (ap (λ (t : SpaceParts g.row.E.Denot). t.basis) c.self.view_is) c.deref.ensures.value
-        c.in_ok-rooted_rows.ensures.len c.in_ok-rooted_rows.ensures.value).1
+    c.self.inside.basis.items c.deref.result.now c.in_ok-rooted_rows.field-0.items c.requires (ap (λ (t : SpaceParts g.row.E.Denot). t.len) c.self.view_is) refl
+    (c.in_ok-from_slice.ensures.items ∙ c.deref-2.ensures.value ∙ ap (λ (t : SpaceParts g.row.E.Denot). t.pivots) c.self.view_is) (ap (λ (t : SpaceParts g.row.E.Denot). t.basis) c.self.view_is) c.deref.ensures.value
+    c.in_ok-rooted_rows.ensures.len c.in_ok-rooted_rows.ensures.value).1
