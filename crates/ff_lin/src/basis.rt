@@ -3,10 +3,10 @@ ghost use Rattle.std.specs.Prelude.{◌≡◌, ℕ, ◌<◌, [], ◌∷◌, ◌+
 ghost use Rattle.std.specs.List.{All};
 ghost use Rattle.ff_theory.specs.Ring.{IsElement};
 ghost use Rattle.ff_lin.specs.Span.{combination};
-ghost use Rattle.ff_lin.specs.Space.{vector_of, vectors_of, IsVector, IsIn, IsSpace, SameSpace, rest_of, pivot};
+ghost use Rattle.ff_lin.specs.Space.{vector_of, vectors_of, IsVector, IsIn, IsSpace, InSpace, SameSpace, rest_of, pivot};
 
 use super::Space;
-use crate::rows::{clear_rows, leading, monic, position, subtract};
+use crate::rows::{clear_rows, leading, monic, position, same_rows, subtract};
 use ff_alg::{FiniteField, NoMemory, same};
 use std::alloc::Global;
 
@@ -150,6 +150,20 @@ impl<E: Copy + Eq> Space<E> {
         ensures same { IfOk result (λ s. SameSpace (K.elements k.now) s.basis (map (λ v. v.items) rows.now)) }
     {
         Space::zero(alloc, n).extend(alloc, k, rows)
+    }
+
+    /// Whether two spaces of one length have the same vectors. They do exactly where their data are the same.
+    pub fn is_same<K: FiniteField<E = E>>(&self, k: &K, other: &Space<E>) -> bool
+        requires space { IsSpace (K.elements k.now) self.now }
+        requires other { IsSpace (K.elements k.now) other.now }
+        requires len { self.now.len ≡ other.now.len }
+        ensures vectors { IsTrue result ↔ ((v : ℕ → (K.elements k.now).carrier) → InSpace (K.elements k.now) self.now v ↔ InSpace (K.elements k.now) other.now v) }
+        ensures data { IsTrue result ↔ (self.now ≡ other.now) }
+    {
+        if self.basis.len() != other.basis.len() {
+            return false;
+        }
+        same_rows(k, self.len, &self.basis, &other.basis)
     }
 
     /// The number of basis vectors.

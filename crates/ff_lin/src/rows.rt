@@ -1,11 +1,11 @@
 // Operations on single rows, in place.
-ghost use Rattle.std.specs.Prelude.{◌≡◌, ℕ, ◌<◌, ◌≤◌, ◌-◌, IfOk, [], length, map, reverse, get_or};
+ghost use Rattle.std.specs.Prelude.{◌≡◌, ℕ, ◌<◌, ◌≤◌, ◌-◌, IfOk, IsTrue, ◌↔◌, [], length, map, reverse, get_or};
 ghost use Rattle.std.specs.List.{All};
 ghost use Rattle.ff_theory.specs.Ring.{IsElement, power};
 ghost use Rattle.ff_lin.specs.Span.{combination, less};
 ghost use Rattle.ff_lin.specs.Space.{vector_of, vectors_of, IsVector, AreRoots, combination_of, frobenius};
 
-use ff_alg::{FiniteField, NoMemory, is_zero};
+use ff_alg::{FiniteField, NoMemory, is_zero, same};
 use std::alloc::Global;
 
 /// `v` less `c` times `w`, which is zero below `start`.
@@ -90,6 +90,40 @@ pub fn leading<E: Copy + Eq, K: FiniteField<E = E>>(k: &K, v: &[E]) -> usize
         }
     }
     v.len()
+}
+
+/// Whether two rows of one length have the same entries.
+pub fn same_row<E: Copy + Eq, K: FiniteField<E = E>>(k: &K, v: &[E], w: &[E]) -> bool
+    requires v { All (IsElement (K.elements k.now)) v.now }
+    requires w { IsVector (K.elements k.now) (length v.now) w.now }
+    ensures { IsTrue result ↔ ((j : ℕ) → vector_of (K.elements k.now) v.now j ≡ vector_of (K.elements k.now) w.now j) }
+{
+    for j in 0..v.len() {
+        if !same(k, v[j], w[j]) {
+            return false;
+        }
+    }
+    true
+}
+
+/// Whether two lists of as many rows of length `n` have the same rows.
+pub fn same_rows<E: Copy + Eq, K: FiniteField<E = E>>(
+    k: &K,
+    n: usize,
+    a: &[Vec<E>],
+    b: &[Vec<E>],
+) -> bool
+    requires a { All (λ v. IsVector (K.elements k.now) n v.items) a.now }
+    requires b { All (λ v. IsVector (K.elements k.now) n v.items) b.now }
+    requires count { length a.now ≡ length b.now }
+    ensures { IsTrue result ↔ ((i j : ℕ) → i < length a.now → vectors_of (K.elements k.now) (map (λ v. v.items) a.now) i j ≡ vectors_of (K.elements k.now) (map (λ v. v.items) b.now) i j) }
+{
+    for i in 0..a.len() {
+        if !same_row(k, &a[i], &b[i]) {
+            return false;
+        }
+    }
+    true
 }
 
 /// How many of the rising places are below `p`, which is none of them.
