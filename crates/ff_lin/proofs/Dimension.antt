@@ -133,7 +133,6 @@ module _ (R : RingOps) (laws : IsCommRing R) where
         (e : ℕ) (z : ℕ → ℕ → C) (pz : ℕ → ℕ) (all : IsEchelon R e z pz) (d : ℕ) (w : ℕ → ℕ → C) (pw : ℕ → ℕ) (common : IsEchelon R d w pw)
         (in_left : (x : ℕ → C) → InSpan R d w x → InSpan R r u x) (in_right : (x : ℕ → C) → InSpan R d w x → InSpan R q v x) (in_both : (x : ℕ → C) → InSpan R r u x → InSpan R q v x → InSpan R d w x)
         (u_in : (i : ℕ) → i < r → InSpan R e z (u i)) (v_in : (k : ℕ) → k < q → InSpan R e z (v k)) where
-
       -- r + q <= e + d
       pub meet-sum_above : r + q ≤ e + d
       meet-sum_above = go (cases_lt (e + d) (r + q))
@@ -219,13 +218,13 @@ module _ (R : RingOps) (laws : IsCommRing R) where
                 x_zero : (j : ℕ) → R.one * a j ⊞ b j ≡ R.zero
                 x_zero = zero-at_pivots r u pu first (λ j. R.one * a j ⊞ b j) (span-more R laws r u R.one a b (span-inside R laws e left r u a left_in (record { coefficients = c; sum = λ j. refl })) (in_left b b_in))
                     (λ i m. ap (λ t. t ⊞ b (pu i)) (ring1 R laws (λ a. unit ⊗ a) (λ a. a) refl (a (pu i)))
-                      ∙ sym (joined-low e d r c (λ k j. left k (pu j)) (λ k m. right k (pv m)) (λ l j. w l (pu j)) (λ l m. minus (w l (pv m))) i m) ∙ h.sum i (omega (arith, m)))
+                    ∙ sym (joined-low e d r c (λ k j. left k (pu j)) (λ k m. right k (pv m)) (λ l j. w l (pu j)) (λ l m. minus (w l (pv m))) i m) ∙ h.sum i (omega (arith, m)))
 
                 y_zero : (j : ℕ) → minus R.one * b j ⊞ a' j ≡ R.zero
                 y_zero = zero-at_pivots q v pv second (λ j. minus R.one * b j ⊞ a' j) (span-more R laws q v (minus R.one) b a' (in_right b b_in) (span-inside R laws e right q v a' right_in (record { coefficients = c; sum = λ j. refl })))
                     (λ i m. laws.add_comm (minus R.one * b (pv i)) (a' (pv i))
-                      ∙ ap (λ t. a' (pv i) ⊞ t) (sym (sum-mul R laws d (minus R.one) (λ l. c' l * w l (pv i))) ∙ sum-ext R laws d (λ l. minus R.one * (c' l * w l (pv i))) (λ l. c' l * minus (w l (pv i))) (λ l n. ring2 R laws (λ c w. neg unit ⊗ (c ⊗ w)) (λ c w. c ⊗ neg w) refl (c' l) (w l (pv i))))
-                      ∙ sym (joined-high e d r c (λ k j. left k (pu j)) (λ k m. right k (pv m)) (λ l j. w l (pu j)) (λ l m. minus (w l (pv m))) i) ∙ h.sum (r + i) (omega (arith, m)))
+                    ∙ ap (λ t. a' (pv i) ⊞ t) (sym (sum-mul R laws d (minus R.one) (λ l. c' l * w l (pv i))) ∙ sum-ext R laws d (λ l. minus R.one * (c' l * w l (pv i))) (λ l. c' l * minus (w l (pv i))) (λ l n. ring2 R laws (λ c w. neg unit ⊗ (c ⊗ w)) (λ c w. c ⊗ neg w) refl (c' l) (w l (pv i))))
+                    ∙ sym (joined-high e d r c (λ k j. left k (pu j)) (λ k m. right k (pv m)) (λ l j. w l (pu j)) (λ l m. minus (w l (pv m))) i) ∙ h.sum (r + i) (omega (arith, m)))
 
                 z_zero : (j : ℕ) → combination R e c z j ≡ R.zero
                 z_zero j = sum-ext R laws e (λ k. c k * z k j) (λ k. c k * left k j ⊞ c k * right k j) (λ k m. ap (λ t. c k * t) (apart k j m) ∙ laws.mul_add (c k) (left k j) (right k j))

@@ -25,7 +25,7 @@ module _ {E : Type 0} (K : Elements E) (laws : IsCommRing K.ring) (tests : IsTes
   pub dimension-relations : (s : SpaceParts E) (images : List (List E)) (m : ℕ) → IsSpace K s → s.len ≡ length images → All (IsVector K m) images → HasExactly K s (IsRelation K images) → length images ≤ m + length s.basis
   dimension-relations s images m space len vectors exact =
       rank-bound K.ring laws tests K.inverse field (length images) m (vectors_of K images) (length s.basis) (vectors_of K s.basis) (pivot s) space.echelon
-        (λ v ends h. (exact v).1 ((λ j l. ends j (omega (arith, l, len))), λ j. all v h j (cases_lt j m)))
+      (λ v ends h. (exact v).1 ((λ j l. ends j (omega (arith, l, len))), λ j. all v h j (cases_lt j m)))
     where
       all : (v : ℕ → K.carrier) → ((j : ℕ) → j < m → combination_of K images v j ≡ K.zero) → (j : ℕ) → (j < m) ⊎ (m ≤ j) → combination_of K images v j ≡ K.zero
       all v h j (inl l) = h j l

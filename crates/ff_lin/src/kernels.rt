@@ -91,7 +91,8 @@ impl<E: Copy + Eq> Space<E> {
         ensures len { IfOk result (λ s. s.len ≡ n) }
         ensures exact { IfOk result (λ s. HasExactly (K.elements k.now) s (IsOrthogonal (K.elements k.now) n (map (λ v. v.items) rows.now))) }
     {
-        Space::mirrored_span(alloc, k, n, rows)?.solutions(alloc, k)
+        let equations = Space::mirrored_span(alloc, k, n, rows)?;
+        equations.solutions(alloc, k)
     }
 
     /// The span of the first `m` columns of the vectors, each read from the last vector to the first.
@@ -125,7 +126,8 @@ impl<E: Copy + Eq> Space<E> {
         ensures len { IfOk result (λ s. s.len ≡ length images.now) }
         ensures exact { IfOk result (λ s. HasExactly (K.elements k.now) s (IsRelation (K.elements k.now) (map (λ v. v.items) images.now))) }
     {
-        Space::mirrored_columns(alloc, k, m, images)?.solutions(alloc, k)
+        let equations = Space::mirrored_columns(alloc, k, m, images)?;
+        equations.solutions(alloc, k)
     }
 
     /// Each vector less the combination of the basis that has its entries at the pivots.
@@ -161,7 +163,8 @@ impl<E: Copy + Eq> Space<E> {
         ensures len { IfOk result (λ s. s.len ≡ length images.now) }
         ensures exact { IfOk result (λ s. HasExactly (K.elements k.now) s (λ v. InSpace (K.elements k.now) self.now (combination_of (K.elements k.now) (map (λ v. v.items) images.now) v))) }
     {
-        Space::relations(alloc, k, self.len, &self.rests(alloc, k, images)?)
+        let rests = self.rests(alloc, k, images)?;
+        Space::relations(alloc, k, self.len, &rests)
     }
 
     /// All vectors whose entries to the power of the characteristic make a vector of the space.
@@ -191,7 +194,8 @@ impl<E: Copy + Eq> Space<E> {
         ensures len { IfOk result (λ s. s.len ≡ length images.now) }
         ensures exact { IfOk result (λ s. HasExactly (K.elements k.now) s (λ v. InSpace (K.elements k.now) self.now (combination_of (K.elements k.now) (map (λ v. v.items) images.now) (frobenius (K.elements k.now) v)))) }
     {
-        self.preimage(alloc, k, images)?.roots(alloc, k)
+        let preimage = self.preimage(alloc, k, images)?;
+        preimage.roots(alloc, k)
     }
 
     /// All `v` with the sum of `frob(v_i)*images[i]` equal to zero; the images have length `m`.
@@ -206,7 +210,8 @@ impl<E: Copy + Eq> Space<E> {
         ensures len { IfOk result (λ s. s.len ≡ length images.now) }
         ensures exact { IfOk result (λ s. HasExactly (K.elements k.now) s (λ v. IsRelation (K.elements k.now) (map (λ v. v.items) images.now) (frobenius (K.elements k.now) v))) }
     {
-        Space::relations(alloc, k, m, images)?.roots(alloc, k)
+        let relations = Space::relations(alloc, k, m, images)?;
+        relations.roots(alloc, k)
     }
 
     /// The span of the combinations of the basis with the given rows of coefficients.

@@ -61,5 +61,7 @@ pub fn solve<E: Copy + Eq, K: FiniteField<E = E>>(
     ensures vector { IfOk result (λ o. IfSome o (λ v. IsVector (K.elements k.now) (length cols.now) v.items)) }
     ensures answer { IfOk result (λ o. MatchOption o ((v : ℕ → (K.elements k.now).carrier) → ¬ (IsSolution (K.elements k.now) (map (λ v. v.items) cols.now) rhs.now v)) (λ v. IsSolution (K.elements k.now) (map (λ v. v.items) cols.now) rhs.now (vector_of (K.elements k.now) v.items))) }
 {
-    Space::relations(alloc, k, m, &augmented(alloc, k, m, cols, rhs)?)?.tail_of_first(alloc)
+    let images = augmented(alloc, k, m, cols, rhs)?;
+    let relations = Space::relations(alloc, k, m, &images)?;
+    relations.tail_of_first(alloc)
 }

@@ -11,7 +11,7 @@ returns-clause-exact g c =
     let K = g.K.Ring.elements c.args.k.now in
     let items : Vec g.row.E.Denot Global → _ = λ v. v.items in
     let rows = map items c.args.rows.now in
-    let s = c.in_ok-mirrored_span.field-0 in
-    ok_map (IsSolvedBy K s) (λ t. HasExactly K t (IsOrthogonal K c.args.n rows)) c.solutions-2.result
-    (kernel_code K (g.met.K.Ring.laws c.args.k.now) s c.args.n (length c.args.rows.now) rows c.in_ok-mirrored_span.ensures.len (length-map c.args.rows.now items) c.in_ok-mirrored_span.ensures.same)
-    c.solutions-2.ensures.exact
+    let s = c.in_ok-equations.equations in
+    ok_map (IsSolvedBy K s) (λ t. HasExactly K t (IsOrthogonal K c.args.n rows)) c.solutions.result
+    (kernel_code K (g.met.K.Ring.laws c.args.k.now) s c.args.n (length c.args.rows.now) rows c.in_ok-equations.ensures.len (length-map c.args.rows.now items) c.in_ok-equations.ensures.same)
+    c.solutions.ensures.exact

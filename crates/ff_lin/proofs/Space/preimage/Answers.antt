@@ -10,5 +10,5 @@ returns-clause-exact g c =
     let items : Vec g.row.E.Denot Global → _ = λ v. v.items in
     let s = c.args.self.now in
     ok_map (λ t. HasExactly K t (IsRelation K (map items c.deref.result.now))) (λ t. HasExactly K t (λ v. InSpace K s (combination_of K (map items c.args.images.now) v))) c.relations.result
-    (preimage_code K (g.met.K.Ring.laws c.args.k.now) items s c.args.images.now c.in_ok-rests.field-0.items c.deref.result.now c.requires.space c.in_ok-rests.ensures.len c.in_ok-rests.ensures.value c.deref.ensures.value)
+    (preimage_code K (g.met.K.Ring.laws c.args.k.now) items s c.args.images.now c.in_ok-rests.rests.items c.deref.result.now c.requires.space c.in_ok-rests.ensures.len c.in_ok-rests.ensures.value c.deref.ensures.value)
     c.relations.ensures.exact
