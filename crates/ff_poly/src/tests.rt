@@ -37,9 +37,19 @@ fn planes(rt: HostRuntime) -> Result<(), Fail> {
     ];
     let a = Plane::from_rows(rt.alloc(), &k, &[x, one, zero])?;
     assert_eq!(rt; a.rows().len(), 2);
-    let b = a.add(rt.alloc(), &k, &Plane::from_rows(rt.alloc(), &k, &[poly(rt.alloc(), &k, &[0, 1])?])?)?;
-    let height = a.y_degree().ok_or("not 0")?.max(b.y_degree().ok_or("not 0")?);
-    let width = a.x_degree().ok_or("not 0")?.max(b.x_degree().ok_or("not 0")?);
+    let b = a.add(
+        rt.alloc(),
+        &k,
+        &Plane::from_rows(rt.alloc(), &k, &[poly(rt.alloc(), &k, &[0, 1])?])?,
+    )?;
+    let height = a
+        .y_degree()
+        .ok_or("not 0")?
+        .max(b.y_degree().ok_or("not 0")?);
+    let width = a
+        .x_degree()
+        .ok_or("not 0")?
+        .max(b.x_degree().ok_or("not 0")?);
     assert!(rt; height < 10);
     assert!(rt; width < 10);
     let want = [

@@ -1,0 +1,18 @@
+use Rattle.std.proofs.Common.{ℕ, map, Vec, Global}
+use Rattle.std.specs.Option.{MatchOption}
+use Rattle.ff_lin.specs.Space.{vector_of, IsSolution}
+use Rattle.ff_lin.specs.Kernel.{BeginsLater, IsTailOfFirst}
+use Rattle.ff_lin.proofs.Inserted.{ok_map}
+use Rattle.ff_lin.proofs.Augmented.{solve_code}
+use Rattle.ff_lin.proofs.systems.solve.Goals as goal
+
+pub returns-clause-answer : goal.returns-clause-answer
+returns-clause-answer g c =
+    let K = g.K.Ring.elements c.args.k.now in
+    let items : Vec g.row.E.Denot Global → _ = λ v. v.items in
+    let t = c.in_ok-relations.relations in
+    let cols = map items c.args.cols.now in
+    ok_map (λ o. MatchOption o (BeginsLater t) (λ v. IsTailOfFirst t (items v))) (λ o. MatchOption o ((v : ℕ → K.carrier) → ¬ (IsSolution K cols c.args.rhs.now v)) (λ v. IsSolution K cols c.args.rhs.now (vector_of K (items v)))) c.tail_of_first.result
+    (solve_code K (g.met.K.Ring.laws c.args.k.now) (g.met.K.Field.is_field c.args.k.now) items t c.in_ok-images.images.items c.deref.result.now c.args.cols.now c.args.rhs.now
+    c.in_ok-relations.ensures.space c.deref.ensures.value c.in_ok-images.ensures.len c.in_ok-relations.ensures.len c.in_ok-images.ensures.value c.in_ok-relations.ensures.exact)
+    c.tail_of_first.ensures
