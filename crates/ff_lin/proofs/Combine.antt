@@ -1,3 +1,4 @@
+-- Combinations of rows, as the code adds them up.
 use Rattle.std.proofs.Common.{◌≡◌, ℕ, zero, suc, ◌+◌, ◌<◌, ◌≤◌, ◌⊎◌, inl, inr, List, [], ◌∷◌, ◌++◌, length, map, get_or, set, refl, sym, ◌∙◌, ap, arith}
 use Rattle.std.proofs.lemmas.Bool.{cases_lt}
 use Rattle.ff_theory.specs.Ring.{IsCommRing, Elements, power, IsCharacteristic}
@@ -6,8 +7,9 @@ use Rattle.ff_theory.proofs.Coeffs.{coeff-past}
 use Rattle.ff_theory.proofs.Solver.{◌⊕◌, ◌⊗◌, neg, nil, ring4, zero_mul}
 use Rattle.ff_lin.specs.Span.{combination, less}
 use Rattle.ff_lin.specs.Space.{vector_of, vectors_of, frobenius}
-use Rattle.ff_lin.proofs.Frobenius.{power-zero}
-use Rattle.ff_lin.proofs.Entries.{entry, set-same, set-other}
+use Rattle.ff_theory.proofs.Frobenius.{power-zero}
+use Rattle.ff_theory.proofs.InPlace.{set-same, set-other}
+use Rattle.ff_lin.proofs.Entries.{entry}
 
 module _ {E : Type 0} (K : Elements E) (laws : IsCommRing K.ring) where
   -- one row more added, by the negative of its coefficient

@@ -1,25 +1,14 @@
+-- Spaces and powers by the characteristic.
 use Rattle.std.proofs.Common.{◌≡◌, ℕ, zero, suc, ◌<◌, refl, sym, ◌∙◌, ap, arith}
 use Rattle.ff_theory.specs.Ring.{RingOps, IsCommRing, FieldOps, IsFiniteField, power}
 use Rattle.ff_theory.specs.Sum.{sum_below}
 use Rattle.ff_theory.proofs.Solver.{◌⊕◌, ◌⊗◌, unit, ring1, ring4, zero_mul}
 use Rattle.ff_theory.proofs.Sums.{sum-ext}
+use Rattle.ff_theory.proofs.Powers.{power-mul}
+use Rattle.ff_theory.proofs.Frobenius.{power-zero}
 use Rattle.ff_lin.specs.Span.{combination, InSpan, IsEchelon}
 use Rattle.ff_lin.proofs.Echelon.{coordinates}
 
-module _ (R : RingOps) (laws : IsCommRing R) where
-  pub power-zero : (n : ℕ) → 0 < n → power R R.zero n ≡ R.zero
-  power-zero zero l = absurd (omega arith)
-  power-zero (suc n) l = zero_mul R laws (power R R.zero n)
-
-  pub power-one : (n : ℕ) → power R R.one n ≡ R.one
-  power-one zero = refl
-  power-one (suc n) = ap (R.mul R.one) (power-one n) ∙ laws.mul_one R.one
-
-  pub power-mul : (a b : R.carrier) (n : ℕ) → power R (R.mul a b) n ≡ R.mul (power R a n) (power R b n)
-  power-mul a b zero = ring1 R laws (λ a. unit) (λ a. unit ⊗ unit) refl R.one
-  power-mul a b (suc n) = ap (R.mul (R.mul a b)) (power-mul a b n) ∙ ring4 R laws (λ a b x y. a ⊗ b ⊗ (x ⊗ y)) (λ a b x y. a ⊗ x ⊗ (b ⊗ y)) refl a b (power R a n) (power R b n)
-
--- Powers by the characteristic p.
 module _ (F : FieldOps) (laws : IsCommRing F.ring) (finite : IsFiniteField F) where
   pub power-sum : (n : ℕ) (f : ℕ → F.carrier) → power F.ring (sum_below F.ring n f) F.characteristic ≡ sum_below F.ring n (λ i. power F.ring (f i) F.characteristic)
   power-sum zero f = power-zero F.ring laws F.characteristic finite.least.positive

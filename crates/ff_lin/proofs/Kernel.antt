@@ -1,3 +1,4 @@
+-- The kernel of vectors of length n, by a basis of their span with pivots.
 use Rattle.std.proofs.Common.{◌≡◌, ℕ, zero, suc, ◌<◌, ◌≤◌, ◌⊎◌, inl, inr, refl, sym, ◌∙◌, ap, arith}
 use Rattle.std.proofs.lemmas.Bool.{cases_lt}
 use Rattle.ff_theory.specs.Ring.{RingOps, IsCommRing}
@@ -8,7 +9,6 @@ use Rattle.ff_lin.specs.Span.{combination, product, EndsAt, InSpan, less, unit_a
 use Rattle.ff_lin.specs.Kernel.{null_vector}
 use Rattle.ff_lin.proofs.Span.{unit-same, unit-other}
 
--- The kernel of vectors of length n, by a basis b of their span with pivots.
 module _ (R : RingOps) (laws : IsCommRing R) where
   infixl 60 ◌+◌
   infixl 70 ◌*◌

@@ -1,3 +1,4 @@
+-- Rows and columns read from the last entry to the first.
 use Rattle.std.proofs.Common.{◌≡◌, ℕ, zero, suc, ◌-◌, ◌<◌, ◌≤◌, ◌⊎◌, inl, inr, List, [], ◌∷◌, length, map, reverse, get_or, refl, sym, ◌∙◌, ap, arith, subst, All}
 use Rattle.std.proofs.lemmas.Bool.{cases_lt, cond_below, cond_above}
 use Rattle.std.proofs.lemmas.List.{get_or-reverse, length-reverse, length-map, get_or-map}

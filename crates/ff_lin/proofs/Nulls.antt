@@ -1,3 +1,4 @@
+-- A null vector as the code fills it.
 use Rattle.std.proofs.Common.{◌≡◌, ℕ, zero, suc, ◌+◌, ◌-◌, ◌<◌, ◌≤◌, ◌⊎◌, inl, inr, List, [], ◌∷◌, length, map, get_or, set, refl, sym, ◌∙◌, ap, arith, subst}
 use Rattle.std.proofs.lemmas.Bool.{cases_order}
 use Rattle.ff_theory.specs.Ring.{RingOps, IsCommRing, Elements}
@@ -6,7 +7,8 @@ use Rattle.ff_lin.specs.Span.{combination, unit_at}
 use Rattle.ff_lin.specs.Space.{vector_of, vectors_of, SpaceParts, IsSpace, IsVector, pivot}
 use Rattle.ff_lin.specs.Kernel.{mirror, mirrored, null_before}
 use Rattle.ff_lin.proofs.Span.{unit-same, unit-other}
-use Rattle.ff_lin.proofs.Entries.{entry, set-same, set-other}
+use Rattle.ff_theory.proofs.InPlace.{set-same, set-other}
+use Rattle.ff_lin.proofs.Entries.{entry}
 use Rattle.ff_lin.proofs.Mirror.{mirror-below}
 
 -- a place is the one, or another

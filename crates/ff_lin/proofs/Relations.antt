@@ -1,3 +1,4 @@
+-- Kernels, relations and preimages are exact.
 use Rattle.std.proofs.Common.{◌≡◌, ℕ, zero, suc, ◌+◌, ◌<◌, ◌≤◌, ◌⊎◌, inl, inr, ◌↔◌, List, [], ◌∷◌, length, map, get_or, refl, sym, ◌∙◌, ap, arith, subst, All}
 use Rattle.std.proofs.lemmas.Bool.{cases_lt}
 use Rattle.std.proofs.lemmas.List.{length-map}
@@ -13,7 +14,9 @@ use Rattle.ff_lin.proofs.Kernel.{kernel-in, kernel-ends, kernel-product, product
 use Rattle.ff_lin.proofs.Mirror.{mirror-mirror, mirror-inside}
 use Rattle.ff_lin.proofs.Echelon.{reduced-combination, reduced-inside, inside-reduced}
 use Rattle.ff_lin.proofs.Steps.{past}
-use Rattle.ff_lin.proofs.Frobenius.{power-in, power-out, power-zero, power-one}
+use Rattle.ff_lin.proofs.Frobenius.{power-in, power-out}
+use Rattle.ff_theory.proofs.Powers.{power-one}
+use Rattle.ff_theory.proofs.Frobenius.{power-zero}
 
 module _ {E : Type 0} (K : Elements E) (laws : IsCommRing K.ring) where
   module _ (s : SpaceParts E) (space : IsSpace K s) where

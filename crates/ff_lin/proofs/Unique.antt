@@ -1,3 +1,4 @@
+-- A space has one echelon basis.
 use Rattle.std.proofs.Common.{◌≡◌, ℕ, zero, suc, ◌<◌, ◌≤◌, ◌⊎◌, inl, inr, Bool, true, false, List, [], ◌∷◌, length, map, get_or, refl, sym, ◌∙◌, ap, ap₂, arith, subst, All}
 use Rattle.std.proofs.lemmas.Bool.{cases_lt, cases_order}
 use Rattle.ff_theory.specs.Ring.{RingOps, IsCommRing, IsTested, Elements, IsElement}

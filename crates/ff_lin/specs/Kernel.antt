@@ -1,3 +1,4 @@
+-- How kernels are computed.
 use Rattle.std.specs.Prelude.{◌≡◌, ℕ, zero, suc, ◌-◌, ◌<◌, ◌⊎◌, nat_lt, cond, List, [], length, get_or, drop}
 use Rattle.ff_theory.specs.Ring.{RingOps, Elements}
 use Rattle.ff_lin.specs.Span.{combination, less, product, unit_at}

@@ -40,7 +40,7 @@ impl<E: Copy + Eq> Space<E> {
         sum
     }
 
-    /// Whether the vector is in the space.
+    /// Whether the vector, of the space's length, is in the space. Takes no memory.
     pub fn contains<K: FiniteField<E = E>>(&self, k: &K, v: &[E]) -> bool
         requires space { IsSpace (K.elements k.now) self.now }
         requires v { IsVector (K.elements k.now) self.now.len v.now }
@@ -88,7 +88,7 @@ impl<E: Copy + Eq> Space<E> {
         rest
     }
 
-    /// The space with a vector more.
+    /// The combinations of the space's vectors and one more, of its length.
     pub fn insert<K: FiniteField<E = E>>(self, k: &K, v: Vec<E>) -> Result<Space<E>, NoMemory>
         requires space { IsSpace (K.elements k.now) self }
         requires v { IsVector (K.elements k.now) self.len v.items }
@@ -104,7 +104,7 @@ impl<E: Copy + Eq> Space<E> {
         self.placed(k, p, monic(k, p, rest))
     }
 
-    /// The space of length `n` with zero alone.
+    /// The space of length `n` whose one vector is zero. Takes no memory, though it keeps its allocator.
     pub fn zero(alloc: Global, n: usize) -> Space<E>
         ensures len { result.len ≡ n }
         ensures basis { result.basis ≡ [] }
@@ -117,7 +117,7 @@ impl<E: Copy + Eq> Space<E> {
         }
     }
 
-    /// All combinations of the space's vectors and the rows.
+    /// All combinations of the space's vectors and the rows, of its length.
     pub(crate) fn extend<K: FiniteField<E = E>>(
         self,
         alloc: Global,
@@ -152,7 +152,8 @@ impl<E: Copy + Eq> Space<E> {
         Space::zero(alloc, n).extend(alloc, k, rows)
     }
 
-    /// Whether two spaces of one length have the same vectors. They do exactly where their data are the same.
+    /// Whether two spaces of one length have the same vectors, which is exactly where their data
+    /// are the same. Takes no memory.
     pub fn is_same<K: FiniteField<E = E>>(&self, k: &K, other: &Space<E>) -> bool
         requires space { IsSpace (K.elements k.now) self.now }
         requires other { IsSpace (K.elements k.now) other.now }
@@ -166,7 +167,7 @@ impl<E: Copy + Eq> Space<E> {
         same_rows(k, self.len, &self.basis, &other.basis)
     }
 
-    /// The number of basis vectors.
+    /// The dimension: the number of basis vectors.
     pub fn dim(&self) -> usize
         ensures { result ≡ length self.now.basis }
     {
@@ -180,7 +181,7 @@ impl<E: Copy + Eq> Space<E> {
         self.len
     }
 
-    /// The row-reduced echelon basis.
+    /// The row-reduced echelon basis, by rising places where its vectors begin.
     pub fn basis(&self) -> &[Vec<E>]
         ensures { map (λ v. v.items) result.now ≡ self.now.basis }
     {

@@ -79,7 +79,7 @@ impl<E: Copy + Eq> Space<E> {
         Ok(space)
     }
 
-    /// All vectors of length `n` whose product with each row is zero.
+    /// All vectors of length `n` whose product with each row, of length `n`, is zero.
     pub fn kernel<K: FiniteField<E = E>>(
         alloc: Global,
         k: &K,
@@ -114,7 +114,8 @@ impl<E: Copy + Eq> Space<E> {
         Ok(space)
     }
 
-    /// The relations of vectors of length `m`: all `v` with the sum of `v_i*images[i]` equal to zero.
+    /// The relations of images of length `m`: all `v`, as long as there are images, with the sum of
+    /// `v_i*images[i]` equal to zero.
     pub fn relations<K: FiniteField<E = E>>(
         alloc: Global,
         k: &K,
@@ -150,7 +151,8 @@ impl<E: Copy + Eq> Space<E> {
         Ok(rests)
     }
 
-    /// All `v` with the sum of `v_i*images[i]` in the space; the images have its length.
+    /// All `v`, as long as there are images, with the sum of `v_i*images[i]` in the space. The images
+    /// have its length. These are the relations of the images modulo the space.
     pub fn preimage<K: FiniteField<E = E>>(
         &self,
         alloc: Global,
@@ -167,7 +169,8 @@ impl<E: Copy + Eq> Space<E> {
         Space::relations(alloc, k, self.len, &rests)
     }
 
-    /// All vectors whose entries to the power of the characteristic make a vector of the space.
+    /// All vectors of the space's length whose entries to the power of the characteristic make a vector
+    /// of the space.
     pub fn roots<K: FiniteField<E = E>>(&self, alloc: Global, k: &K) -> Result<Space<E>, NoMemory>
         requires { IsSpace (K.elements k.now) self.now }
         ensures space { IfOk result (λ s. IsSpace (K.elements k.now) s) }
@@ -181,7 +184,8 @@ impl<E: Copy + Eq> Space<E> {
         })
     }
 
-    /// All `v` with the sum of `frob(v_i)*images[i]` in the space; the images have its length.
+    /// All `v`, as long as there are images, with the sum of `frob(v_i)*images[i]` in the space. The
+    /// images have its length.
     pub fn semi_preimage<K: FiniteField<E = E>>(
         &self,
         alloc: Global,
@@ -198,7 +202,8 @@ impl<E: Copy + Eq> Space<E> {
         preimage.roots(alloc, k)
     }
 
-    /// All `v` with the sum of `frob(v_i)*images[i]` equal to zero; the images have length `m`.
+    /// All `v`, as long as there are images, with the sum of `frob(v_i)*images[i]` equal to zero. The
+    /// images have length `m`.
     pub fn semi_kernel<K: FiniteField<E = E>>(
         alloc: Global,
         k: &K,

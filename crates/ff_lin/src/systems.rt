@@ -48,7 +48,9 @@ impl<E: Copy + Eq> Space<E> {
     }
 }
 
-/// A vector `v` with the sum of `v_i*cols[i]` equal to `rhs`, and None exactly where there is none. The columns and `rhs` have length `m`.
+/// A vector `v`, as long as there are columns, with the sum of `v_i*cols[i]` equal to `rhs`, and None
+/// exactly where there is none. The columns and `rhs` have length `m`. `NoMemory` comes for want of
+/// memory alone. This project's own.
 pub fn solve<E: Copy + Eq, K: FiniteField<E = E>>(
     alloc: Global,
     k: &K,

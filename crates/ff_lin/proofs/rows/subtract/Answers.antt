@@ -1,10 +1,11 @@
-use Rattle.std.proofs.Common.{◌≡◌, ℕ, ◌<◌, ◌≤◌, length, get_or, refl, sym, ◌∙◌, arith, All}
+use Rattle.std.proofs.Common.{◌≡◌, ℕ, ◌+◌, ◌<◌, ◌≤◌, length, get_or, refl, sym, ◌∙◌, arith, All}
 use Rattle.std.proofs.lemmas.List.Elements.{All-set}
 use Rattle.std.proofs.lemmas.List.{length-set}
 use Rattle.ff_theory.specs.Ring.{IsElement}
 use Rattle.ff_lin.specs.Span.{less}
 use Rattle.ff_lin.specs.Space.{vector_of}
-use Rattle.ff_lin.proofs.Entries.{rewrite-below, rewrite-above, subtracted, subtracted_at, less-zero_factor, less-zero_entry}
+use Rattle.ff_theory.proofs.InPlace.{written-below, written-above}
+use Rattle.ff_lin.proofs.Entries.{subtracted, subtracted_at, less-zero_factor, less-zero_entry}
 use Rattle.ff_lin.proofs.rows.subtract.Goals as goal
 
 pub returns-then-is_zero-clause-value : goal.returns-then-is_zero-clause-value
@@ -32,10 +33,10 @@ loop-j-preserved g c =
       len = length-set c.loop-j.v c.loop-j.j c.add.result ∙ c.loop-j.invariant.len;
       each = All-set (IsElement K) c.loop-j.v c.loop-j.j c.add.result c.add.ensures.element c.loop-j.invariant.each;
       factor = c.neg-factor.ensures.element;
-      below = rewrite-below K.ring K.value c.loop-j.v c.loop-j.j c.add.result (less K.ring (vector_of K c.args.v.now) (K.value c.args.c) (vector_of K c.args.w.now)) bound c.loop-j.invariant.below
+      below = written-below K.ring K.value c.loop-j.v c.loop-j.j (c.loop-j.j + 1) c.add.result (less K.ring (vector_of K c.args.v.now) (K.value c.args.c) (vector_of K c.args.w.now)) bound refl c.loop-j.invariant.below
           (subtracted_at K (g.met.K.Ring.laws c.args.k.now) c.loop-j.v c.args.v.now c.args.w.now c.loop-j.j c.args.c c.neg-factor.result c.index-v-j.result c.index-w-j.result c.mul.result c.add.result bound (omega (arith, c.requires.len, c.loop-j.invariant.len)) c.index-v-j.is c.index-w-j.is
           (c.loop-j.invariant.above c.loop-j.j (omega arith)) c.neg-factor.ensures.value c.mul.ensures.value c.add.ensures.value);
-      above = rewrite-above K.ring K.value c.loop-j.v c.loop-j.j c.add.result (vector_of K c.args.v.now) c.loop-j.invariant.above;
+      above = written-above K.ring K.value c.loop-j.v c.loop-j.j (c.loop-j.j + 1) c.add.result (vector_of K c.args.v.now) refl c.loop-j.invariant.above;
     }
 
 pub returns-clause-value : goal.returns-clause-value

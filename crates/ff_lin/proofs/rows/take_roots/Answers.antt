@@ -1,9 +1,10 @@
-use Rattle.std.proofs.Common.{◌≡◌, ℕ, ◌<◌, ◌≤◌, ◌⊎◌, inl, inr, length, get_or, set, refl, sym, ◌∙◌, ap, arith, subst, All}
+use Rattle.std.proofs.Common.{◌≡◌, ℕ, ◌+◌, ◌<◌, ◌≤◌, ◌⊎◌, inl, inr, length, get_or, set, refl, sym, ◌∙◌, ap, arith, subst, All}
 use Rattle.std.proofs.lemmas.List.Elements.{All-set}
 use Rattle.std.proofs.lemmas.List.{length-set}
 use Rattle.ff_theory.specs.Ring.{IsElement, power}
 use Rattle.ff_lin.specs.Space.{vector_of, frobenius}
-use Rattle.ff_lin.proofs.Entries.{entry, rewrite-above}
+use Rattle.ff_theory.proofs.InPlace.{written-above}
+use Rattle.ff_lin.proofs.Entries.{entry}
 use Rattle.ff_lin.proofs.Combine.{roots-all, roots-below}
 use Rattle.ff_lin.proofs.rows.take_roots.Goals as goal
 
@@ -15,7 +16,7 @@ loop-j-preserved g c =
       len = length-set c.loop-j.v c.loop-j.j c.root.result ∙ c.loop-j.invariant.len;
       each = All-set (IsElement K) c.loop-j.v c.loop-j.j c.root.result c.root.ensures.element c.loop-j.invariant.each;
       below = roots-below K (g.met.K.Ring.laws c.args.k.now) c.loop-j.v c.args.v.now c.loop-j.j c.index-v-j.result c.root.result bound c.index-v-j.is c.root.ensures.value (c.loop-j.invariant.above c.loop-j.j (omega arith)) c.loop-j.invariant.below;
-      above = rewrite-above K.ring K.value c.loop-j.v c.loop-j.j c.root.result (vector_of K c.args.v.now) c.loop-j.invariant.above;
+      above = written-above K.ring K.value c.loop-j.v c.loop-j.j (c.loop-j.j + 1) c.root.result (vector_of K c.args.v.now) refl c.loop-j.invariant.above;
     }
 
 pub returns-clause-value : goal.returns-clause-value
