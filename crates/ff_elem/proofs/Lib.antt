@@ -1,0 +1,11 @@
+pub mod RowLemmas
+pub mod PolyLemmas
+pub mod Reduction
+pub mod Quotients
+pub mod Size
+pub mod EuclidSteps
+pub mod CommonRows
+pub mod EuclidLoop
+pub mod Inverses
+pub mod ZeroLemmas
+pub mod KeyLemmas

@@ -1,0 +1,13 @@
+use Rattle.std.proofs.Common.{◌≡◌, length, map, take, All}
+use Rattle.ff_theory.specs.Poly.{polynomials}
+use Rattle.ff_poly.specs.Words.{poly_of, IsPoly}
+use Rattle.ff_elem.proofs.rows.scaled.Given as goal
+
+abbrev pub invariant-loop-p : goal.invariant-loop-p
+invariant-loop-p g l =
+    let K = g.K.Ring.elements l.k in
+    record {
+      len : length l.rows.items ≡ l.p-index;
+      each : All (λ p. IsPoly K p) l.rows.items;
+      value : map (λ p. poly_of K p) l.rows.items ≡ map (λ p. (polynomials K.ring).mul (poly_of K l.e) (poly_of K p)) (take l.p-index l.a);
+    }

@@ -1,0 +1,5 @@
+pub mod Elem
+pub mod Euclid
+pub mod Inverse
+pub mod Key
+pub mod Zeros

@@ -1,0 +1,18 @@
+//! The algebra E(f), which is k(x)[y]/f: its elements in lowest terms, sums, products, inverses and keys.
+#![tactic(auto)]
+
+mod algebra;
+mod elem;
+mod euclid;
+mod frobenius;
+mod inverse;
+mod key;
+mod reduce;
+mod rows;
+mod terms;
+#[cfg(test)]
+mod tests;
+
+pub use algebra::Alg;
+pub use elem::{Elem, PolyList};
+pub use inverse::InvFault;
