@@ -1,0 +1,4 @@
+-- Pairs of elements put for x and y, and lists of pairs with their inverses.
+pub mod Substitution
+pub mod Pairs
+pub mod Lists

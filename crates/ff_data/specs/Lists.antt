@@ -1,0 +1,28 @@
+-- Keys of pairs, and isomorphism lists.
+use Rattle.std.specs.Prelude.{◌≡◌, ℕ, ◌+◌, ◌<◌, List, ◌++◌, length, slice_index_or as get_or}
+use Rattle.std.specs.declared.cmp.Ordering.TheVariants.{Less}
+use Rattle.std.specs.List.{All, Any}
+use Rattle.ff_theory.specs.Ring.{Elements}
+use Rattle.ff_theory.specs.Lawful.{Lawful}
+use Rattle.ff_elem.specs.Key.{elem_key, key_cmp}
+use Rattle.ff_data.specs.declared.pair.Pair.{Pair}
+use Rattle.ff_data.specs.declared.pair.Entry.{Entry}
+use Rattle.ff_data.specs.Pairs.{IsPair, IsInversePair}
+
+-- the key of X, and then that of Y
+abbrev pub pair_key : {E : Type 0} → Elements E → Pair E → List ℕ
+pair_key K p = elem_key K p.x ++ elem_key K p.y
+
+module _ {E : Type 0} (K : Elements E) (L : Lawful K) (f g : List (List E)) where
+  -- a pair of E(g) that satisfies f, with its inverse pair of E(f)
+  pub record IsEntry (e : Entry E) : Type 0 where
+    pub pair : IsPair K L g e.pair
+    pub back : IsPair K L f e.back
+    pub inverse : IsInversePair K L f g e.pair e.back
+
+  -- The isomorphism list of (f, g): each entry is a satisfying pair with its inverse pair, the keys of the pairs
+  -- rise strictly, and each satisfying pair that has an inverse pair stands in an entry.
+  pub record IsIsoList (entries : List (Entry E)) : Type 0 where
+    pub each : All IsEntry entries
+    pub rising : (i : ℕ) (d : Entry E) → i + 1 < length entries → key_cmp (pair_key K (get_or entries i d).pair) (pair_key K (get_or entries (i + 1) d).pair) ≡ Less
+    pub all : (pair back : Pair E) → IsPair K L g pair → IsPair K L f back → IsInversePair K L f g pair back → Any (λ (e : Entry E). e.pair ≡ pair) entries

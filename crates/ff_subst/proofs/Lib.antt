@@ -1,0 +1,4 @@
+pub mod Columns
+pub mod Multiples
+pub mod Size
+pub mod PairValues

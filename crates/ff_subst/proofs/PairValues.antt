@@ -1,0 +1,48 @@
+-- Values of elements at pairs.
+use Rattle.std.proofs.Common.{◌≡◌, List, [], ◌∷◌, sym, ◌∙◌, ap, refl}
+use Rattle.ff_theory.specs.Ring.{RingOps, IsCommRing, Elements}
+use Rattle.ff_theory.specs.Lawful.{Field, Lawful, lawful_field}
+use Rattle.ff_theory.specs.Poly.{Poly, poly, polynomials}
+use Rattle.ff_theory.specs.Eval.{eval}
+use Rattle.ff_theory.proofs.Solver.{◌⊗◌, unit, ring1, ring2, ring3, mul_zero}
+use Rattle.ff_theory.proofs.Poly.{polynomial_laws, polynomial_tests}
+use Rattle.ff_theory.proofs.Evaluate.{eval_map, eval-const}
+use Rattle.ff_theory.proofs.Algebra.{Plane}
+use Rattle.ff_theory.proofs.Element.{algebra_of, algebra_is_ring, constant}
+use Rattle.ff_theory.proofs.Constants.{constant_map, one_inverse}
+use Rattle.ff_poly.specs.Words.{poly_of, plane_of}
+use Rattle.ff_data.specs.Substitution.{poly_at, plane_at_pair, IsDefined, IsValue}
+
+module _ (F : Field) (g : Plane F) where
+  abbrev R : RingOps
+  R = algebra_of F g
+
+  laws : IsCommRing (algebra_of F g)
+  laws = algebra_is_ring F g
+
+  -- a polynomial in x alone
+  pub row-at : (X Y : (algebra_of F g).carrier) (p : Poly F.ring) → plane_at_pair F g X Y (poly (polynomials F.ring) (p ∷ [])) ≡ poly_at F g X p
+  row-at X Y p = eval-const (polynomials F.ring) R (polynomial_laws F.ring F.laws F.tests) (polynomial_tests F.ring F.laws F.tests) laws (eval F.ring R (constant F g) X) (eval_map F.ring R F.laws F.tests laws (constant F g) (constant_map F g) X) Y p
+
+  pub value_is : (den : Poly F.ring) (num : Plane F) (X Y d i n v : (algebra_of F g).carrier) → d ≡ poly_at F g X den → R.mul i d ≡ R.one → n ≡ plane_at_pair F g X Y num → v ≡ R.mul n i → IsValue F g den num X Y v
+  value_is den num X Y d i n v ed ei en ev = record {
+    inverse = i;
+    inverts = ap (R.mul i) (sym ed) ∙ ei;
+    product = ev ∙ ap (λ t. R.mul t i) en;
+  }
+
+  -- a divisor of zero has no inverse
+  pub no_value : (den : Poly F.ring) (X d u : (algebra_of F g).carrier) → d ≡ poly_at F g X den → R.mul d u ≡ R.zero → ¬ (u ≡ R.zero) → ¬ IsDefined F g den X
+  no_value den X d u ed e nu h = nu (
+      ring1 R laws (λ u. u) (λ u. unit ⊗ u) refl u ∙ ap (λ t. R.mul t u) (sym h.inverts) ∙ laws.mul_assoc h.inverse (poly_at F g X den) u
+      ∙ ap (λ t. R.mul h.inverse (R.mul t u)) (sym ed) ∙ ap (R.mul h.inverse) e ∙ mul_zero R laws h.inverse)
+
+  pub defined : (den : Poly F.ring) (num : Plane F) (X Y v : (algebra_of F g).carrier) → IsValue F g den num X Y v → IsDefined F g den X
+  defined den num X Y v h = record { inverse = h.inverse; inverts = h.inverts }
+
+  -- there is one value at most
+  pub one_value : (den : Poly F.ring) (num : Plane F) (X Y v w : (algebra_of F g).carrier) → IsValue F g den num X Y v → IsValue F g den num X Y w → v ≡ w
+  one_value den num X Y v w h k = h.product ∙ ap (R.mul (plane_at_pair F g X Y num)) (one_inverse R laws (poly_at F g X den) h.inverse k.inverse h.inverts k.inverts) ∙ sym k.product
+
+  pub value_equal : (den : Poly F.ring) (num : Plane F) (X Y v w : (algebra_of F g).carrier) → v ≡ w → IsValue F g den num X Y v → IsValue F g den num X Y w
+  value_equal den num X Y v w e h = record { inverse = h.inverse; inverts = h.inverts; product = sym e ∙ h.product }

@@ -1,0 +1,10 @@
+//! Elements of E(g) put for x and y: values of elements of E(f), satisfying pairs and inverse pairs.
+#![tactic(auto)]
+
+mod inverse;
+mod values;
+
+pub use inverse::{is_inverse, satisfies, substitute};
+
+#[cfg(test)]
+mod tests;
