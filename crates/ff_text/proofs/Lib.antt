@@ -1,0 +1,13 @@
+pub mod Accepts
+pub mod Answered
+pub mod Completed
+pub mod Derived
+pub mod Faults
+pub mod First
+pub mod Judged
+pub mod Leading
+pub mod Parts
+pub mod Ratios
+pub mod Rows
+pub mod Sizes
+pub mod Totals

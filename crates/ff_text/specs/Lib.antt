@@ -1,0 +1,10 @@
+pub mod Grammar
+pub mod Limits
+pub mod Made
+pub mod Printed
+pub mod Ratios
+pub mod Reading
+pub mod Reads
+pub mod Sums
+pub mod Symbols
+pub mod Values
