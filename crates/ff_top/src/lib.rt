@@ -1,0 +1,14 @@
+//! The top call: from words and a source of bytes to a text in a sink and a status.
+#![tactic(auto)]
+
+mod check;
+mod status;
+mod top;
+mod word;
+
+pub use status::Status;
+pub use top::run;
+pub use word::{ByteList, Word};
+
+#[cfg(test)]
+mod tests;
