@@ -1,0 +1,68 @@
+#!/usr/bin/env python3
+"""Writes the inputs of bench/check.sh into the folder that is named: five for the time of `check`, and one long text for that of the reader."""
+import random
+import sys
+from pathlib import Path
+
+
+def written(terms):
+    return "+".join(f"{c}*x^{i}*y^{j}" for (i, j), c in sorted(terms.items()))
+
+
+def polynomial(source, p, width, height, count):
+    """A polynomial with this many terms, the highest one among them."""
+    powers = {(width, height), (width, 0), (0, height)}
+    while len(powers) < count:
+        powers.add((source.randint(0, width), source.randint(0, height)))
+    return {power: source.randint(1, p - 1) for power in powers}
+
+
+def equation(source, p, width, height, monic):
+    """An equation with all terms below its leading row, which is 1 or x^2+2."""
+    terms = {(i, j): source.randint(1, p - 1) for j in range(height) for i in range(width + 1)}
+    terms.update({(0, height): 1} if monic else {(2, height): 1, (0, height): 2})
+    return terms
+
+
+def disguised(p, terms, g, h):
+    """terms + g*h, which is the same element of E(g)."""
+    total = dict(terms)
+    for (i, j), c in g.items():
+        for (k, l), d in h.items():
+            total[i + k, j + l] = (total.get((i + k, j + l), 0) + c * d) % p
+    return written({power: c for power, c in total.items() if c})
+
+
+def text(p, f, g, x, y, u, v):
+    return f"p {p}\nf {f}\ng {g}\nX {x}\nY {y}\nU {u}\nV {v}\n"
+
+
+def main():
+    folder = Path(sys.argv[1])
+    source = random.Random(97)
+    small = "y^2-x^5-1"
+    full = equation(source, 97, 12, 6, False)
+    middle = equation(source, 97, 6, 3, True)
+    x, y = {(1, 0): 1}, {(0, 1): 1}
+    random_pair = lambda width, height, count: [written(polynomial(source, 97, width, height, count)) for _ in range(2)]
+    identity = lambda: [disguised(97, part, full, polynomial(source, 97, 500, 58, 8)) for part in (x, y)]
+    inputs = {
+        "1-genus-two": text(3, small, small, "x", "2*y", "x", "2*y"),
+        "2-moebius": text(5, "y^2-x^5+x", "y^2-x^5+x", "(4*x+2)/(x+4)", "(3*y)/(x^3+2*x^2+3*x+4)", "(x+2)/(x+1)", "(2*y)/(x^3+3*x^2+3*x+1)"),
+        "3-middle": text(97, written(middle), written(middle), *random_pair(64, 8, 60), *random_pair(64, 8, 60)),
+        "4-identity": text(97, written(full), written(full), *identity(), *identity()),
+        "5-largest": text(97, written(full), written(full), *random_pair(512, 64, 1000), *random_pair(512, 64, 1000)),
+    }
+    for name, data in inputs.items():
+        assert len(data) <= 65536, (name, len(data))
+        (folder / name).write_text(data)
+    head = text(97, written(full), written(full), "x", "y", "x", "@")
+    filler = "+".join("1*x^3*y^2" for _ in range((65536 - len(head)) // 10))
+    long = head.replace("@", filler)
+    long += "\n" * (65536 - len(long))
+    assert len(long) == 65536
+    (folder / "6-all-bytes").write_text(long)
+
+
+if __name__ == "__main__":
+    main()

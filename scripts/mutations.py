@@ -1,0 +1,95 @@
+#!/usr/bin/env python3
+"""Runs the built program on every front of the valid texts in examples/ and on 10,000 mutated ones, and demands a named answer each time.
+
+A named answer is one of the texts of `check` with the exit status that belongs to it. Where an answer names the place of a syntax fault,
+the script demands more: the place is within the input, and the same input cut there or one byte behind it tells of the same place or goes on.
+Seeds are fixed. Usage, after `./ff check < examples/check.txt` has built the program: scripts/mutations.py [NUMBER]
+"""
+import random
+import re
+import subprocess
+import sys
+from concurrent.futures import ThreadPoolExecutor
+from pathlib import Path
+
+TOP = Path(__file__).resolve().parent.parent
+PROGRAM = TOP / "crates" / "ff_cli" / "out" / "ff_cli"
+ALPHABET = b"0123456789xyXYUVpfg+-*^()/ \t\r\n" + bytes([0, 33, 65, 122, 200, 255])
+ANSWERS = [
+    (0, re.compile(rb"(yes|no)\n")),
+    (1, re.compile(rb"bad input: syntax at [0-9]+\n")),
+    (1, re.compile(rb"bad input: p is not in the table\n")),
+    (1, re.compile(rb"bad input: equation [12] has no y\n")),
+    (1, re.compile(rb"bad input: denominator of [XYUV] is zero\n")),
+    (3, re.compile(rb"limit: degree of (equation [12]|[XYUV])\n")),
+    (3, re.compile(rb"limit: input longer than 65536 bytes\n")),
+]
+
+
+def run(data):
+    done = subprocess.run([str(PROGRAM), "check"], input=data, capture_output=True, timeout=60)
+    return done.returncode, done.stdout, done.stderr
+
+
+def place(text):
+    found = re.fullmatch(rb"bad input: syntax at ([0-9]+)\n", text)
+    return int(found.group(1)) if found else None
+
+
+def complaint(data):
+    """What is wrong with the answer to an input, or None."""
+    status, text, errors = run(data)
+    if errors or not any(status == wanted and form.fullmatch(text) for wanted, form in ANSWERS):
+        return f"status {status}, answer {text!r}, errors {errors!r}"
+    at = place(text)
+    if at is None:
+        return None
+    if at > len(data):
+        return f"place {at} is behind the end"
+    # Some text begins with the first `at` bytes, so what is wrong with them alone is at most their end.
+    front = place(run(data[:at])[1])
+    if front is not None and front != at:
+        return f"the first {at} bytes are refused at {front}"
+    # No text begins with one byte more.
+    if at < len(data) and place(run(data[: at + 1])[1]) != at:
+        return f"the first {at + 1} bytes are not refused at {at}"
+    return None
+
+
+def mutated(source, texts):
+    data = bytearray(source.choice(texts))
+    for _ in range(source.randint(1, 4)):
+        at = source.randrange(len(data) + 1)
+        kind = source.randrange(4)
+        if kind == 0:
+            data.insert(at, source.choice(ALPHABET))
+        elif kind == 1 and at < len(data):
+            del data[at : at + source.randint(1, 3)]
+        elif kind == 2 and at < len(data):
+            data[at] = source.choice(ALPHABET)
+        else:
+            other = source.choice(texts)
+            start = source.randrange(len(other))
+            data[at:at] = other[start : start + source.randint(1, 12)]
+    return bytes(data)
+
+
+def main():
+    number = int(sys.argv[1]) if len(sys.argv) > 1 else 10000
+    texts = [path.read_bytes() for path in sorted((TOP / "examples").glob("check*.txt"))]
+    source = random.Random(20261201)
+    inputs = [text[:n] for text in texts for n in range(len(text) + 1)]
+    fronts = len(inputs)
+    inputs += [mutated(source, texts) for _ in range(number)]
+    wrong = 0
+    with ThreadPoolExecutor(4) as pool:
+        for data, trouble in zip(inputs, pool.map(complaint, inputs)):
+            if trouble:
+                wrong += 1
+                print(f"{data!r}: {trouble}")
+    print(f"{fronts} fronts and {number} mutated inputs: {wrong} without a named answer")
+    sys.exit(1 if wrong else 0)
+
+
+if __name__ == "__main__":
+    main()

@@ -1,0 +1,36 @@
+#!/bin/bash
+# Runs the built program on each example once for every allocation that it makes, which is refused, and demands each
+# time the answer that ample memory gives, or the exit status 6 with nothing written. Build the program first:
+# ./ff check < examples/check.txt
+set -u
+top=$(cd "$(dirname "$0")/.." && pwd)
+program=$top/crates/ff_cli/out/ff_cli
+work=$(mktemp -d)
+trap 'rm -rf "$work"' EXIT
+cc -shared -fPIC -O1 -o "$work/refuse.so" "$top/scripts/refused_memory/refuse.c" -ldl || exit 1
+wrong=0
+for input in "$top"/examples/check*.txt; do
+    wanted=$("$program" check < "$input")
+    status=$?
+    refused=0
+    number=0
+    same=0
+    # Ten runs in a row that the refusal did not change are behind the last allocation.
+    while [ "$same" -lt 10 ]; do
+        number=$((number + 1))
+        text=$(REFUSE=$number LD_PRELOAD="$work/refuse.so" "$program" check < "$input" 2> "$work/errors")
+        code=$?
+        if [ "$code" = 6 ] && [ -z "$text" ] && [ ! -s "$work/errors" ]; then
+            refused=$((refused + 1))
+            same=0
+        elif [ "$code" = "$status" ] && [ "$text" = "$wanted" ]; then
+            same=$((same + 1))
+        else
+            wrong=$((wrong + 1))
+            same=0
+            echo "$(basename "$input"), allocation $number: status $code, answer '$text'"
+        fi
+    done
+    echo "$(basename "$input"): $((number - 10)) allocations, $refused ended without memory"
+done
+exit $((wrong > 0))
