@@ -13,16 +13,16 @@ use Rattle.ff_data.specs.Pairs.{IsPair, IsInversePair}
 abbrev pub pair_key : {E : Type 0} → Elements E → Pair E → List ℕ
 pair_key K p = elem_key K p.x ++ elem_key K p.y
 
-module _ {E : Type 0} (K : Elements E) (L : Lawful K) (f g : List (List E)) where
+module _ {E : Type 0} {K : Elements E} (L : Lawful K) (f g : List (List E)) where
   -- a pair of E(g) that satisfies f, with its inverse pair of E(f)
   pub record IsEntry (e : Entry E) : Type 0 where
-    pub pair : IsPair K L g e.pair
-    pub back : IsPair K L f e.back
-    pub inverse : IsInversePair K L f g e.pair e.back
+    pub pair : IsPair L g e.pair
+    pub back : IsPair L f e.back
+    pub inverse : IsInversePair L f g e.pair e.back
 
   -- The isomorphism list of (f, g): each entry is a satisfying pair with its inverse pair, the keys of the pairs
   -- rise strictly, and each satisfying pair that has an inverse pair stands in an entry.
   pub record IsIsoList (entries : List (Entry E)) : Type 0 where
     pub each : All IsEntry entries
     pub rising : (i : ℕ) (d : Entry E) → i + 1 < length entries → key_cmp (pair_key K (get_or entries i d).pair) (pair_key K (get_or entries (i + 1) d).pair) ≡ Less
-    pub all : (pair back : Pair E) → IsPair K L g pair → IsPair K L f back → IsInversePair K L f g pair back → Any (λ (e : Entry E). e.pair ≡ pair) entries
+    pub all : (pair back : Pair E) → IsPair L g pair → IsPair L f back → IsInversePair L f g pair back → Any (λ (e : Entry E). e.pair ≡ pair) entries

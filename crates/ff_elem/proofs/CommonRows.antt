@@ -19,12 +19,12 @@ use Rattle.ff_elem.proofs.PolyLemmas.{poly-nonzero}
 
 module _ {E : Type 0} (K : Elements E) (L : Lawful K) where
   abbrev D : Domain
-  D = polynomial_domain (lawful_field K L)
+  D = polynomial_domain (lawful_field L)
 
   abbrev P : RingOps
-  P = planes (lawful_field K L)
+  P = planes (lawful_field L)
 
-  PL : IsCommRing (planes (lawful_field K L))
+  PL : IsCommRing (planes (lawful_field L))
   PL = polynomial_laws D.ring D.laws D.tests
 
   abbrev at : List (List E) → ℕ → Poly K.ring
@@ -59,25 +59,25 @@ module _ {E : Type 0} (K : Elements E) (L : Lawful K) where
         (λ i. scale-coeff D.ring D.laws D.tests t (map (λ p. poly_of K p) M) i ∙ D.laws.mul_comm t (at M i) ∙ h i ∙ D.laws.mul_comm (at N i) d ∙ sym (scale-coeff D.ring D.laws D.tests d (map (λ p. poly_of K p) N) i))
         ∙ sym (monomial-mul D.ring D.laws D.tests 0 d (map (λ p. poly_of K p) N))
 
-  pub lowest-count : (n : ℕ) (d : List E) (Q : List (List E)) → IsLowest (lawful_field K L) n (poly_of K d) (map (λ p. poly_of K p) Q) → length Q ≡ n
+  pub lowest-count : (n : ℕ) (d : List E) (Q : List (List E)) → IsLowest (lawful_field L) n (poly_of K d) (map (λ p. poly_of K p) Q) → length Q ≡ n
   lowest-count n d Q low = sym (length-map Q (λ p. poly_of K p)) ∙ eqb-true (length (map (λ p. poly_of K p) Q)) n low.count
 
   -- the rows of a pair in lowest terms over one of them
   pub primitive-step : (a by r : Multiple E) (n : ℕ) (rows Q : List (List E)) (t d : List E) → rows ≡ a.value ++ a.factor → n ≡ length a.value → IsPoly K t → 0 < length t
-      → IsLowest (lawful_field K L) (length rows) (poly_of K d) (map (λ p. poly_of K p) Q)
+      → IsLowest (lawful_field L) (length rows) (poly_of K d) (map (λ p. poly_of K p) Q)
       → ((i : ℕ) → i < length rows → (polynomials K.ring).mul (coeff (polynomials K.ring) (map (λ p. poly_of K p) Q) i) (poly_of K t) ≡ (polynomials K.ring).mul (coeff (polynomials K.ring) (map (λ p. poly_of K p) rows) i) (poly_of K d))
       → plane_of K r.value ≡ plane_of K (take n Q) → plane_of K r.factor ≡ plane_of K (drop n Q) → IsStep K a by r
   primitive-step a by r n rows Q t d all size ht lt low equal value factor = record {
     g = poly_of K t;
     g_nonzero = poly-nonzero K L t ht lt;
     e = poly_of K d;
-    e_nonzero = lowest_nonzero (lawful_field K L) (plane_of K []) (length rows) (poly_of K d) (map (λ p. poly_of K p) Q) low;
+    e_nonzero = lowest_nonzero (lawful_field L) (plane_of K []) (length rows) (poly_of K d) (map (λ p. poly_of K p) Q) low;
     q = P.zero;
     values = ap (P.mul (row_of K.ring (poly_of K t))) (value ∙ ap (λ n. plane_of K (take n Q)) size) ∙ crosswise (poly_of K t) (poly_of K d) (take (length a.value) Q) a.value (front (poly_of K t) (poly_of K d) a.value a.factor Q count each) ∙ plus (row_of K.ring (poly_of K d)) (plane_of K a.value) (plane_of K by.value);
     factors = ap (P.mul (row_of K.ring (poly_of K t))) (factor ∙ ap (λ n. plane_of K (drop n Q)) size) ∙ crosswise (poly_of K t) (poly_of K d) (drop (length a.value) Q) a.factor (back (poly_of K t) (poly_of K d) a.value a.factor Q count each) ∙ plus (row_of K.ring (poly_of K d)) (plane_of K a.factor) (plane_of K by.factor);
   }
     where
-      plus : (x y z : Plane (lawful_field K L)) → P.mul x y ≡ P.add (P.mul x y) (P.mul P.zero z)
+      plus : (x y z : Plane (lawful_field L)) → P.mul x y ≡ P.add (P.mul x y) (P.mul P.zero z)
       plus x y z = ring2 P PL (λ s z. s) (λ s z. s ⊕ nil ⊗ z) refl (P.mul x y) z
 
       count : length Q ≡ length (a.value ++ a.factor)

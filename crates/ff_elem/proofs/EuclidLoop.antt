@@ -19,31 +19,31 @@ use Rattle.ff_elem.proofs.EuclidSteps.{step-value, step-crossed}
 
 module _ {E : Type 0} (K : Elements E) (L : Lawful K) (f a : List (List E)) where
   abbrev F : Field
-  F = lawful_field K L
+  F = lawful_field L
 
   abbrev P : RingOps
-  P = planes (lawful_field K L)
+  P = planes (lawful_field L)
 
   abbrev A : RingOps
-  A = algebra_in K L f
+  A = algebra_in L f
 
-  AL : IsCommRing (algebra_in K L f)
-  AL = algebra_is_ring (lawful_field K L) (plane_of K f)
+  AL : IsCommRing (algebra_in L f)
+  AL = algebra_is_ring (lawful_field L) (plane_of K f)
 
-  V : IsMap P A (value_of (lawful_field K L) (plane_of K f))
-  V = value_map (lawful_field K L) (plane_of K f)
+  V : IsMap P A (value_of (lawful_field L) (plane_of K f))
+  V = value_map (lawful_field L) (plane_of K f)
 
   pub record IsState (large small : Multiple E) : Type 0 where
     pub large_pair : IsPair K large
     pub small_pair : IsPair K small
     pub has_y : 1 < length large.value
-    pub large_value : (algebra_in K L f).mul (plane_in K L f large.factor) (plane_in K L f a) ≡ plane_in K L f large.value
-    pub small_value : (algebra_in K L f).mul (plane_in K L f small.factor) (plane_in K L f a) ≡ plane_in K L f small.value
-    pub crossed : IsCrossed (lawful_field K L) (plane_of K f) (plane_of K large.value) (plane_of K large.factor) (plane_of K small.value) (plane_of K small.factor)
+    pub large_value : (algebra_in L f).mul (plane_in L f large.factor) (plane_in L f a) ≡ plane_in L f large.value
+    pub small_value : (algebra_in L f).mul (plane_in L f small.factor) (plane_in L f a) ≡ plane_in L f small.value
+    pub crossed : IsCrossed (lawful_field L) (plane_of K f) (plane_of K large.value) (plane_of K large.factor) (plane_of K small.value) (plane_of K small.factor)
 
-  moved : (r0 s0 r1 s1 p0 q0 p1 q1 : Plane (lawful_field K L)) → p0 ≡ r0 → q0 ≡ s0 → p1 ≡ r1 → q1 ≡ s1 → IsCrossed (lawful_field K L) (plane_of K f) r0 s0 r1 s1 → IsCrossed (lawful_field K L) (plane_of K f) p0 q0 p1 q1
-  moved r0 s0 r1 s1 p0 q0 p1 q1 h0 k0 h1 k1 c = subst (λ t. IsCrossed (lawful_field K L) (plane_of K f) t q0 p1 q1) (sym h0) (subst (λ t. IsCrossed (lawful_field K L) (plane_of K f) r0 t p1 q1) (sym k0)
-      (subst (λ t. IsCrossed (lawful_field K L) (plane_of K f) r0 s0 t q1) (sym h1) (subst (λ t. IsCrossed (lawful_field K L) (plane_of K f) r0 s0 r1 t) (sym k1) c)))
+  moved : (r0 s0 r1 s1 p0 q0 p1 q1 : Plane (lawful_field L)) → p0 ≡ r0 → q0 ≡ s0 → p1 ≡ r1 → q1 ≡ s1 → IsCrossed (lawful_field L) (plane_of K f) r0 s0 r1 s1 → IsCrossed (lawful_field L) (plane_of K f) p0 q0 p1 q1
+  moved r0 s0 r1 s1 p0 q0 p1 q1 h0 k0 h1 k1 c = subst (λ t. IsCrossed (lawful_field L) (plane_of K f) t q0 p1 q1) (sym h0) (subst (λ t. IsCrossed (lawful_field L) (plane_of K f) r0 t p1 q1) (sym k0)
+      (subst (λ t. IsCrossed (lawful_field L) (plane_of K f) r0 s0 t q1) (sym h1) (subst (λ t. IsCrossed (lawful_field L) (plane_of K f) r0 s0 r1 t) (sym k1) c)))
 
   pub state-start : (one : List E) (large small : Multiple E) → IsPlane K f → 1 < length f → poly_of K one ≡ (polynomials K.ring).one → IsPair K large → IsPair K small
       → plane_of K large.value ≡ plane_of K f → plane_of K large.factor ≡ plane_of K [] → plane_of K small.value ≡ plane_of K a → plane_of K small.factor ≡ plane_of K (one ∷ []) → IsState large small
@@ -51,8 +51,8 @@ module _ {E : Type 0} (K : Elements E) (L : Lawful K) (f a : List (List E)) wher
     large_pair = pl;
     small_pair = ps;
     has_y = let s = plane-size K L large.value pl.value in let t = plane-size K L f hf in let e = ap (size (polynomials K.ring)) lv in omega (arith, s, t, e, has);
-    large_value = ap (λ p. A.mul (value_of F (plane_of K f) p) (plane_in K L f a)) lf ∙ ap (λ t. A.mul t (plane_in K L f a)) V.on_zero ∙ zero_mul A AL (plane_in K L f a) ∙ sym (ap (value_of F (plane_of K f)) lv ∙ equation F (plane_of K f) (not-empty K L f (length f - 1) hf (let e : length f ≡ suc (length f - 1) = omega (arith, has) in e)));
-    small_value = ap (λ p. A.mul (value_of F (plane_of K f) p) (plane_in K L f a)) factor ∙ ap (λ t. A.mul t (plane_in K L f a)) V.on_one ∙ one_mul A AL (plane_in K L f a) ∙ sym (ap (value_of F (plane_of K f)) sv);
+    large_value = ap (λ p. A.mul (value_of F (plane_of K f) p) (plane_in L f a)) lf ∙ ap (λ t. A.mul t (plane_in L f a)) V.on_zero ∙ zero_mul A AL (plane_in L f a) ∙ sym (ap (value_of F (plane_of K f)) lv ∙ equation F (plane_of K f) (not-empty K L f (length f - 1) hf (let e : length f ≡ suc (length f - 1) = omega (arith, has) in e)));
+    small_value = ap (λ p. A.mul (value_of F (plane_of K f) p) (plane_in L f a)) factor ∙ ap (λ t. A.mul t (plane_in L f a)) V.on_one ∙ one_mul A AL (plane_in L f a) ∙ sym (ap (value_of F (plane_of K f)) sv);
     crossed = moved (plane_of K f) P.zero (plane_of K a) P.one (plane_of K large.value) (plane_of K large.factor) (plane_of K small.value) (plane_of K small.factor) lv lf sv factor (crossed-start F (plane_of K f) (plane_of K a));
   }
     where
@@ -65,7 +65,7 @@ module _ {E : Type 0} (K : Elements E) (L : Lawful K) (f a : List (List E)) wher
     small_pair = pair;
     has_y = has;
     large_value = h.small_value;
-    small_value = step-value K L f (plane_in K L f a) large small next step h.large_value h.small_value;
+    small_value = step-value K L f (plane_in L f a) large small next step h.large_value h.small_value;
     crossed = step-crossed K L f large small next step h.crossed;
   }
 

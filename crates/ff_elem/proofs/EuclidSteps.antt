@@ -22,23 +22,23 @@ use Rattle.ff_elem.proofs.Quotients.{rows-size}
 
 module _ {E : Type 0} (K : Elements E) (L : Lawful K) where
   abbrev D : Domain
-  D = polynomial_domain (lawful_field K L)
+  D = polynomial_domain (lawful_field L)
 
   abbrev P : RingOps
-  P = planes (lawful_field K L)
+  P = planes (lawful_field L)
 
-  PL : IsCommRing (planes (lawful_field K L))
+  PL : IsCommRing (planes (lawful_field L))
   PL = polynomial_laws D.ring D.laws D.tests
 
-  row_map : IsMap (polynomials K.ring) (planes (lawful_field K L)) (row (lawful_field K L))
+  row_map : IsMap (polynomials K.ring) (planes (lawful_field L)) (row (lawful_field L))
   row_map = const_map D.ring D.laws D.tests
 
   -- zero rows at the end add none
   pub plane-short : (rows r : List (List E)) → IsPlane K r → plane_of K r ≡ plane_of K rows → length r ≤ length rows
-  plane-short rows r h e = let s : length r ≤ length rows = let k = ap (λ (p : Plane (lawful_field K L)). length p.coeffs) e in omega (arith, k, plane-size K L r h, rows-size K L r rows) in s
+  plane-short rows r h e = let s : length r ≤ length rows = let k = ap (λ (p : Plane (lawful_field L)). length p.coeffs) e in omega (arith, k, plane-size K L r h, rows-size K L r rows) in s
 
   -- 1 times a plane
-  pub one-times : (p q : Plane (lawful_field K L)) → p ≡ q → (polynomials (polynomials K.ring)).mul (row_of K.ring (polynomials K.ring).one) p ≡ q
+  pub one-times : (p q : Plane (lawful_field L)) → p ≡ q → (polynomials (polynomials K.ring)).mul (row_of K.ring (polynomials K.ring).one) p ≡ q
   one-times p q h = one_mul P PL p ∙ h
 
   -- the top rows, which cancel, are left out
@@ -71,17 +71,17 @@ module _ {E : Type 0} (K : Elements E) (L : Lawful K) where
     factors = ring2 P PL (λ x y. unit ⊗ x) (λ x y. unit ⊗ x ⊕ nil ⊗ y) refl (plane_of K a.factor) (plane_of K by.factor);
   }
 
-  combined : (g h e d : Poly K.ring) (q r x y z b : Plane (lawful_field K L)) → P.mul (row (lawful_field K L) g) y ≡ P.add (P.mul (row (lawful_field K L) e) x) (P.mul q b)
-      → P.mul (row (lawful_field K L) h) z ≡ P.add (P.mul (row (lawful_field K L) d) y) (P.mul r b)
-      → P.mul (row (lawful_field K L) (D.mul g h)) z ≡ P.add (P.mul (row (lawful_field K L) (D.mul d e)) x) (P.mul (P.add (P.mul (row (lawful_field K L) d) q) (P.mul (row (lawful_field K L) g) r)) b)
+  combined : (g h e d : Poly K.ring) (q r x y z b : Plane (lawful_field L)) → P.mul (row (lawful_field L) g) y ≡ P.add (P.mul (row (lawful_field L) e) x) (P.mul q b)
+      → P.mul (row (lawful_field L) h) z ≡ P.add (P.mul (row (lawful_field L) d) y) (P.mul r b)
+      → P.mul (row (lawful_field L) (D.mul g h)) z ≡ P.add (P.mul (row (lawful_field L) (D.mul d e)) x) (P.mul (P.add (P.mul (row (lawful_field L) d) q) (P.mul (row (lawful_field L) g) r)) b)
   combined g h e d q r x y z b first second =
       ap (λ t. P.mul t z) (row_map.on_mul g h)
-      ∙ ring3 P PL (λ g h z. (g ⊗ h) ⊗ z) (λ g h z. g ⊗ (h ⊗ z)) refl (row (lawful_field K L) g) (row (lawful_field K L) h) z
-      ∙ ap (P.mul (row (lawful_field K L) g)) second
-      ∙ ring6 P PL (λ g d y r b o. g ⊗ (d ⊗ y ⊕ r ⊗ b)) (λ g d y r b o. d ⊗ (g ⊗ y) ⊕ (g ⊗ r) ⊗ b) refl (row (lawful_field K L) g) (row (lawful_field K L) d) y r b b
-      ∙ ap (λ t. P.add (P.mul (row (lawful_field K L) d) t) (P.mul (P.mul (row (lawful_field K L) g) r) b)) first
-      ∙ ring6 P PL (λ d e x q b s. d ⊗ (e ⊗ x ⊕ q ⊗ b) ⊕ s ⊗ b) (λ d e x q b s. (d ⊗ e) ⊗ x ⊕ (d ⊗ q ⊕ s) ⊗ b) refl (row (lawful_field K L) d) (row (lawful_field K L) e) x q b (P.mul (row (lawful_field K L) g) r)
-      ∙ ap (λ t. P.add (P.mul t x) (P.mul (P.add (P.mul (row (lawful_field K L) d) q) (P.mul (row (lawful_field K L) g) r)) b)) (sym (row_map.on_mul d e))
+      ∙ ring3 P PL (λ g h z. (g ⊗ h) ⊗ z) (λ g h z. g ⊗ (h ⊗ z)) refl (row (lawful_field L) g) (row (lawful_field L) h) z
+      ∙ ap (P.mul (row (lawful_field L) g)) second
+      ∙ ring6 P PL (λ g d y r b o. g ⊗ (d ⊗ y ⊕ r ⊗ b)) (λ g d y r b o. d ⊗ (g ⊗ y) ⊕ (g ⊗ r) ⊗ b) refl (row (lawful_field L) g) (row (lawful_field L) d) y r b b
+      ∙ ap (λ t. P.add (P.mul (row (lawful_field L) d) t) (P.mul (P.mul (row (lawful_field L) g) r) b)) first
+      ∙ ring6 P PL (λ d e x q b s. d ⊗ (e ⊗ x ⊕ q ⊗ b) ⊕ s ⊗ b) (λ d e x q b s. (d ⊗ e) ⊗ x ⊕ (d ⊗ q ⊕ s) ⊗ b) refl (row (lawful_field L) d) (row (lawful_field L) e) x q b (P.mul (row (lawful_field L) g) r)
+      ∙ ap (λ t. P.add (P.mul t x) (P.mul (P.add (P.mul (row (lawful_field L) d) q) (P.mul (row (lawful_field L) g) r)) b)) (sym (row_map.on_mul d e))
 
   pub step-trans : (a by b c : Multiple E) → IsStep K a by b → IsStep K b by c → IsStep K a by c
   step-trans a by b c h k = record {
@@ -89,19 +89,19 @@ module _ {E : Type 0} (K : Elements E) (L : Lawful K) where
     g_nonzero = D.no_divisors h.g k.g h.g_nonzero k.g_nonzero;
     e = D.mul k.e h.e;
     e_nonzero = D.no_divisors k.e h.e k.e_nonzero h.e_nonzero;
-    q = P.add (P.mul (row (lawful_field K L) k.e) h.q) (P.mul (row (lawful_field K L) h.g) k.q);
+    q = P.add (P.mul (row (lawful_field L) k.e) h.q) (P.mul (row (lawful_field L) h.g) k.q);
     values = combined h.g k.g h.e k.e h.q k.q (plane_of K a.value) (plane_of K b.value) (plane_of K c.value) (plane_of K by.value) h.values k.values;
     factors = combined h.g k.g h.e k.e h.q k.q (plane_of K a.factor) (plane_of K b.factor) (plane_of K c.factor) (plane_of K by.factor) h.factors k.factors;
   }
 
   module _ (f : List (List E)) where
-    pub step-value : (v : (algebra_in K L f).carrier) (a by b : Multiple E) → IsStep K a by b
-        → (algebra_in K L f).mul (plane_in K L f a.factor) v ≡ plane_in K L f a.value → (algebra_in K L f).mul (plane_in K L f by.factor) v ≡ plane_in K L f by.value
-        → (algebra_in K L f).mul (plane_in K L f b.factor) v ≡ plane_in K L f b.value
-    step-value v a by b h ha hb = combination-value (lawful_field K L) (plane_of K f) v (plane_of K a.value) (plane_of K a.factor) (plane_of K by.value) (plane_of K by.factor) (plane_of K b.value) (plane_of K b.factor) h.q h.g h.e h.g_nonzero
+    pub step-value : (v : (algebra_in L f).carrier) (a by b : Multiple E) → IsStep K a by b
+        → (algebra_in L f).mul (plane_in L f a.factor) v ≡ plane_in L f a.value → (algebra_in L f).mul (plane_in L f by.factor) v ≡ plane_in L f by.value
+        → (algebra_in L f).mul (plane_in L f b.factor) v ≡ plane_in L f b.value
+    step-value v a by b h ha hb = combination-value (lawful_field L) (plane_of K f) v (plane_of K a.value) (plane_of K a.factor) (plane_of K by.value) (plane_of K by.factor) (plane_of K b.value) (plane_of K b.factor) h.q h.g h.e h.g_nonzero
         (record { equal = h.values }) (record { equal = h.factors }) ha hb
 
-    pub step-crossed : (a by b : Multiple E) → IsStep K a by b → IsCrossed (lawful_field K L) (plane_of K f) (plane_of K a.value) (plane_of K a.factor) (plane_of K by.value) (plane_of K by.factor)
-        → IsCrossed (lawful_field K L) (plane_of K f) (plane_of K by.value) (plane_of K by.factor) (plane_of K b.value) (plane_of K b.factor)
-    step-crossed a by b h crossed = crossed-step (lawful_field K L) (plane_of K f) (plane_of K a.value) (plane_of K a.factor) (plane_of K by.value) (plane_of K by.factor) (plane_of K b.value) (plane_of K b.factor) h.q h.g h.e h.g_nonzero h.e_nonzero
+    pub step-crossed : (a by b : Multiple E) → IsStep K a by b → IsCrossed (lawful_field L) (plane_of K f) (plane_of K a.value) (plane_of K a.factor) (plane_of K by.value) (plane_of K by.factor)
+        → IsCrossed (lawful_field L) (plane_of K f) (plane_of K by.value) (plane_of K by.factor) (plane_of K b.value) (plane_of K b.factor)
+    step-crossed a by b h crossed = crossed-step (lawful_field L) (plane_of K f) (plane_of K a.value) (plane_of K a.factor) (plane_of K by.value) (plane_of K by.factor) (plane_of K b.value) (plane_of K b.factor) h.q h.g h.e h.g_nonzero h.e_nonzero
         (record { equal = h.values }) (record { equal = h.factors }) crossed

@@ -218,7 +218,7 @@ module _ {E : Type 0} (K : Elements E) (one_place : (a b : E) → IsElement K a 
       ap₂ (λ p a. p ∷ a) parts.0 (rows_key-one a b (omega arith) (λ k d l. ha (suc k) d (omega arith)) (λ k d l. hb (suc k) d (omega arith)) parts.1)
 
   -- elements of one algebra with the same key are the same
-  pub elem_key-one : (L : Lawful K) (f : List (List E)) (a b : Elem E) → IsPlane K f → 1 < length f → IsElem K L f a → IsElem K L f b → elem_key K a ≡ elem_key K b → a ≡ b
+  pub elem_key-one : (L : Lawful K) (f : List (List E)) (a b : Elem E) → IsPlane K f → 1 < length f → IsElem L f a → IsElem L f b → elem_key K a ≡ elem_key K b → a ≡ b
   elem_key-one L f a b hf has ha hb e =
       let parts = poly_key-one a.den b.den (rows_key K a.num) (rows_key K b.num) ha.den.each hb.den.each e in
       element-path a b parts.0 (rows_key-one a.num b.num (let m = element-count K L f a hf has ha in let n = element-count K L f b hf has hb in omega (arith, m, n)) ha.num hb.num parts.1)
@@ -232,8 +232,8 @@ key_cmp-is_equal r s e = key_cmp-equal r s (ap is_ne e)
 
 -- the order of keys is Equal exactly where the elements are equal
 pub equal-element : {E : Type 0} (K : Elements E) (L : Lawful K) (f : List (List E)) → ((a b : E) → IsElement K a → IsElement K b → K.value a ≡ K.value b → a ≡ b) → ((a : K.carrier) → K.element_at (K.place a) ≡ a)
-    → (a b : Elem E) → IsPlane K f → 1 < length f → IsElem K L f a → IsElem K L f b → (o : Ordering) → o ≡ key_cmp (elem_key K a) (elem_key K b) → (o ≡ Equal → elem_of K L f a ≡ elem_of K L f b) × (elem_of K L f a ≡ elem_of K L f b → o ≡ Equal)
+    → (a b : Elem E) → IsPlane K f → 1 < length f → IsElem L f a → IsElem L f b → (o : Ordering) → o ≡ key_cmp (elem_key K a) (elem_key K b) → (o ≡ Equal → elem_of L f a ≡ elem_of L f b) × (elem_of L f a ≡ elem_of L f b → o ≡ Equal)
 equal-element K L f one_value at_place a b hf has ha hb o is = (
-  λ e. ap (elem_of K L f) (elem_key-one K (λ x y hx hy h. one_value x y hx hy (sym (at_place (K.value x)) ∙ ap K.element_at h ∙ at_place (K.value y))) L f a b hf has ha hb (key_cmp-is_equal (elem_key K a) (elem_key K b) (sym is ∙ e))),
+  λ e. ap (elem_of L f) (elem_key-one K (λ x y hx hy h. one_value x y hx hy (sym (at_place (K.value x)) ∙ ap K.element_at h ∙ at_place (K.value y))) L f a b hf has ha hb (key_cmp-is_equal (elem_key K a) (elem_key K b) (sym is ∙ e))),
   λ e. is ∙ ap (λ t. key_cmp (elem_key K a) (elem_key K t)) (sym (element-one K L f one_value a b ha hb e)) ∙ key_cmp-self (elem_key K a),
 )

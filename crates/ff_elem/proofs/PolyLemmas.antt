@@ -13,7 +13,7 @@ use Rattle.ff_poly.specs.Words.{poly_of, IsPoly}
 
 module _ {E : Type 0} (K : Elements E) (L : Lawful K) where
   abbrev D : Domain
-  D = polynomial_domain (lawful_field K L)
+  D = polynomial_domain (lawful_field L)
 
   -- a list that is not empty stands for a polynomial that is not 0
   pub poly-nonzero : (p : List E) → IsPoly K p → 0 < length p → (polynomials K.ring).same (poly_of K p) (polynomials K.ring).zero ≡ false

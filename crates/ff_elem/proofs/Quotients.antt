@@ -48,18 +48,18 @@ module _ (F : Field) where
 
 module _ {E : Type 0} (K : Elements E) (L : Lawful K) (f : List (List E)) where
   abbrev F' : Field
-  F' = lawful_field K L
+  F' = lawful_field L
 
   abbrev R : Domain
-  R = polynomial_domain (lawful_field K L)
+  R = polynomial_domain (lawful_field L)
 
   abbrev A : RingOps
-  A = algebra_in K L f
+  A = algebra_in L f
 
   pub not-empty : (n : ℕ) → IsPlane K f → length f ≡ suc n → ¬ (size (polynomials K.ring) (plane_of K f) ≡ 0)
   not-empty n h l z = absurd (let k : length f ≡ 0 = sym (plane-size K L f h) ∙ z in omega (arith, k, l))
 
-  pub plane-degree : (n : ℕ) → IsPlane K f → length f ≡ suc n → degree (lawful_field K L) (plane_of K f) ≡ n
+  pub plane-degree : (n : ℕ) → IsPlane K f → length f ≡ suc n → degree (lawful_field L) (plane_of K f) ≡ n
   plane-degree n h l = ap (λ p. pred (size R.ring p)) (proper_is F' (plane_of K f) (not-empty n h l)) ∙ ap pred (plane-size K L f h ∙ l)
 
   -- a list of rows has at most as many as it has entries
@@ -70,30 +70,30 @@ module _ {E : Type 0} (K : Elements E) (L : Lawful K) (f : List (List E)) where
   -- rows, fewer than those of f, with the same fractions in lowest terms
   pub fraction-value : (n : ℕ) (rows num : List (List E)) (den : List E) (e : Elem E) → IsPlane K f → length f ≡ suc n → IsPoly K den → 0 < length den
       → length num ≡ n → plane_of K num ≡ plane_of K rows
-      → IsLowest (lawful_field K L) (length num) (poly_of K e.den) (map (λ p. poly_of K p) e.num)
+      → IsLowest (lawful_field L) (length num) (poly_of K e.den) (map (λ p. poly_of K p) e.num)
       → ((i : ℕ) → i < length num → (polynomials K.ring).mul (coeff (polynomials K.ring) (map (λ p. poly_of K p) e.num) i) (poly_of K den) ≡ (polynomials K.ring).mul (coeff (polynomials K.ring) (map (λ p. poly_of K p) num) i) (poly_of K e.den))
-      → IsLowest (lawful_field K L) (degree (lawful_field K L) (plane_of K f)) (poly_of K e.den) (map (λ p. poly_of K p) e.num) × (elem_of K L f e ≡ over_in K L f rows den)
+      → IsLowest (lawful_field L) (degree (lawful_field L) (plane_of K f)) (poly_of K e.den) (map (λ p. poly_of K p) e.num) × (elem_of L f e ≡ over_in L f rows den)
   unfolding poly
   fraction-value n rows num den e hf lf hd ld len same low equal = (
     low',
     from_parts_exact F' (plane_of K f) (plane_of K rows) (poly_of K den) R.one (plane_of K num) (poly_of K e.den) (map (λ p. poly_of K p) e.num) (not-empty n hf lf) (poly-nonzero K L den hd ld) R.proper
-        (ap (value_of F' (plane_of K f)) same ∙ sym (ap (λ t. (algebra_in K L f).mul t (value_of F' (plane_of K f) (plane_of K rows))) one-row ∙ one_mul (algebra_in K L f) (algebra_is_ring F' (plane_of K f)) _)) (omega (arith, rows-size num, plane-size K L f hf, lf, len)) low'
+        (ap (value_of F' (plane_of K f)) same ∙ sym (ap (λ t. (algebra_in L f).mul t (value_of F' (plane_of K f) (plane_of K rows))) one-row ∙ one_mul (algebra_in L f) (algebra_is_ring F' (plane_of K f)) _)) (omega (arith, rows-size num, plane-size K L f hf, lf, len)) low'
         (λ i l. ap (R.mul (coeff R.ring (map (λ p. poly_of K p) e.num) i)) (one_mul R.ring R.laws (poly_of K den)) ∙ equal i (omega (arith, l, plane-degree n hf lf, len)) ∙ ap (λ t. R.mul t (poly_of K e.den)) (sym (trim-coeff R.ring R.laws R.tests (map (λ p. poly_of K p) num) i))),
   )
     where
-      one-row : value_of F' (plane_of K f) (row F' R.one) ≡ (algebra_in K L f).one
+      one-row : value_of F' (plane_of K f) (row F' R.one) ≡ (algebra_in L f).one
       one-row = ap (value_of F' (plane_of K f)) (const_map R.ring R.laws R.tests).on_one ∙ (value_map F' (plane_of K f)).on_one
 
-      low' : IsLowest (lawful_field K L) (degree (lawful_field K L) (plane_of K f)) (poly_of K e.den) (map (λ p. poly_of K p) e.num)
-      low' = subst (λ n. IsLowest (lawful_field K L) n (poly_of K e.den) (map (λ p. poly_of K p) e.num)) (len ∙ sym (plane-degree n hf lf)) low
+      low' : IsLowest (lawful_field L) (degree (lawful_field L) (plane_of K f)) (poly_of K e.den) (map (λ p. poly_of K p) e.num)
+      low' = subst (λ n. IsLowest (lawful_field L) n (poly_of K e.den) (map (λ p. poly_of K p) e.num)) (len ∙ sym (plane-degree n hf lf)) low
 
   -- a multiple over a multiple
   pub over-multiple : (rows rest : List (List E)) (den c whole : List E) → IsPoly K den → 0 < length den → IsPoly K c → 0 < length c
-      → plane_in K L f rest ≡ (algebra_in K L f).mul (poly_in K L f c) (plane_in K L f rows) → poly_of K whole ≡ (polynomials K.ring).mul (poly_of K c) (poly_of K den)
-      → over_in K L f rest whole ≡ over_in K L f rows den
-  over-multiple rows rest den c whole hd ld hc lc value product = over_one F' (plane_of K f) (plane_of K rows) (poly_of K den) (over_in K L f rest whole) (poly-nonzero K L den hd ld)
-      (cancel_row F' (plane_of K f) (poly_of K c) (poly-nonzero K L c hc lc) _ _ (sym ((algebra_is_ring F' (plane_of K f)).mul_assoc (poly_in K L f c) (poly_in K L f den) (over_in K L f rest whole))
-      ∙ ap (λ t. (algebra_in K L f).mul t (over_in K L f rest whole)) (sym (product-value K L f whole c den product))
+      → plane_in L f rest ≡ (algebra_in L f).mul (poly_in L f c) (plane_in L f rows) → poly_of K whole ≡ (polynomials K.ring).mul (poly_of K c) (poly_of K den)
+      → over_in L f rest whole ≡ over_in L f rows den
+  over-multiple rows rest den c whole hd ld hc lc value product = over_one F' (plane_of K f) (plane_of K rows) (poly_of K den) (over_in L f rest whole) (poly-nonzero K L den hd ld)
+      (cancel_row F' (plane_of K f) (poly_of K c) (poly-nonzero K L c hc lc) _ _ (sym ((algebra_is_ring F' (plane_of K f)).mul_assoc (poly_in L f c) (poly_in L f den) (over_in L f rest whole))
+      ∙ ap (λ t. (algebra_in L f).mul t (over_in L f rest whole)) (sym (product-value K L f whole c den product))
       ∙ over_clear F' (plane_of K f) (plane_of K rest) (poly_of K whole) (ap (λ t. R.same t R.zero) product ∙ R.no_divisors (poly_of K c) (poly_of K den) (poly-nonzero K L c hc lc) (poly-nonzero K L den hd ld)) ∙ value))
 
   negative-at : (rows : List (List E)) (i : ℕ) → coeff (polynomials K.ring) (map (λ p. (polynomials K.ring).neg (poly_of K p)) rows) i ≡ (polynomials K.ring).neg (coeff (polynomials K.ring) (map (λ p. poly_of K p) rows) i)
@@ -102,8 +102,8 @@ module _ {E : Type 0} (K : Elements E) (L : Lawful K) (f : List (List E)) where
   negative-at (p ∷ rows) (suc i) = negative-at rows i
 
   -- the negatives of the numerators
-  pub negative-value : (n : ℕ) (a e : Elem E) → e.den ≡ a.den → map (λ p. poly_of K p) e.num ≡ map (λ p. (polynomials K.ring).neg (poly_of K p)) a.num → IsLowest (lawful_field K L) n (poly_of K a.den) (map (λ p. poly_of K p) a.num)
-      → IsLowest (lawful_field K L) n (poly_of K e.den) (map (λ p. poly_of K p) e.num) × (elem_of K L f e ≡ (algebra_in K L f).neg (elem_of K L f a))
+  pub negative-value : (n : ℕ) (a e : Elem E) → e.den ≡ a.den → map (λ p. poly_of K p) e.num ≡ map (λ p. (polynomials K.ring).neg (poly_of K p)) a.num → IsLowest (lawful_field L) n (poly_of K a.den) (map (λ p. poly_of K p) a.num)
+      → IsLowest (lawful_field L) n (poly_of K e.den) (map (λ p. poly_of K p) e.num) × (elem_of L f e ≡ (algebra_in L f).neg (elem_of L f a))
   unfolding element
   negative-value n a e den num low = (
     record {
@@ -121,29 +121,29 @@ module _ {E : Type 0} (K : Elements E) (L : Lawful K) (f : List (List E)) where
       back : (i : ℕ) → coeff R.ring (map (λ p. poly_of K p) a.num) i ≡ R.neg (coeff R.ring (map (λ p. poly_of K p) e.num) i)
       back i = ring1 R.ring R.laws (λ a. a) (λ a. neg (neg a)) refl (coeff R.ring (map (λ p. poly_of K p) a.num) i) ∙ ap R.neg (sym (at i))
 
-      plane : plane_of K e.num ≡ (planes (lawful_field K L)).neg (plane_of K a.num)
+      plane : plane_of K e.num ≡ (planes (lawful_field L)).neg (plane_of K a.num)
       plane = neg_by_coeffs R.ring R.laws R.tests (map (λ p. poly_of K p) a.num) (map (λ p. poly_of K p) e.num) at
 
-  pub over-one-value : (rows : List (List E)) (one : List E) → poly_of K one ≡ (polynomials K.ring).one → over_in K L f rows one ≡ plane_in K L f rows
+  pub over-one-value : (rows : List (List E)) (one : List E) → poly_of K one ≡ (polynomials K.ring).one → over_in L f rows one ≡ plane_in L f rows
   over-one-value rows one h = ap (over_of F' (plane_of K f) (plane_of K rows)) h ∙ over-one F' (plane_of K f) (plane_of K rows)
 
   -- rows of 0, 1, x and y
-  pub zero-rows : plane_in K L f [] ≡ (algebra_in K L f).zero
+  pub zero-rows : plane_in L f [] ≡ (algebra_in L f).zero
   zero-rows = (value_map F' (plane_of K f)).on_zero
 
-  pub one-rows : (p : List E) → poly_of K p ≡ (polynomials K.ring).one → plane_in K L f (p ∷ []) ≡ (algebra_in K L f).one
+  pub one-rows : (p : List E) → poly_of K p ≡ (polynomials K.ring).one → plane_in L f (p ∷ []) ≡ (algebra_in L f).one
   one-rows p h = ap (λ t. value_of F' (plane_of K f) (row F' t)) h ∙ ap (value_of F' (plane_of K f)) (const_map R.ring R.laws R.tests).on_one ∙ (value_map F' (plane_of K f)).on_one
 
-  pub x-rows : (p : List E) → poly_of K p ≡ poly K.ring (K.zero ∷ K.one ∷ []) → plane_in K L f (p ∷ []) ≡ x_in K L f
+  pub x-rows : (p : List E) → poly_of K p ≡ poly K.ring (K.zero ∷ K.one ∷ []) → plane_in L f (p ∷ []) ≡ x_in L f
   unfolding x_of
   x-rows p h = ap (λ t. value_of F' (plane_of K f) (row F' t)) h
 
-  pub y-rows : (z p : List E) → z ≡ [] → poly_of K p ≡ (polynomials K.ring).one → plane_in K L f (z ∷ p ∷ []) ≡ y_in K L f
+  pub y-rows : (z p : List E) → z ≡ [] → poly_of K p ≡ (polynomials K.ring).one → plane_in L f (z ∷ p ∷ []) ≡ y_in L f
   unfolding y_of
   y-rows z p hz hp = ap₂ (λ s t. value_of F' (plane_of K f) (poly R.ring (s ∷ t ∷ []))) (ap (poly_of K) hz) hp
 
   -- as many numerators as f has rows below the top
-  pub element-count : (e : Elem E) → IsPlane K f → 1 < length f → IsElem K L f e → length e.num + 1 ≡ length f
+  pub element-count : (e : Elem E) → IsPlane K f → 1 < length f → IsElem L f e → length e.num + 1 ≡ length f
   element-count e h has low = let n = pred (length f) in let long : length f ≡ suc n = at (length f) (omega arith) in
       let c : length (map (λ p. poly_of K p) e.num) ≡ degree F' (plane_of K f) = eqb-true _ _ low.lowest.count in
       omega (arith, c, plane-degree n h long, length-map e.num (λ p. poly_of K p), long)
@@ -152,22 +152,22 @@ module _ {E : Type 0} (K : Elements E) (L : Lawful K) (f : List (List E)) where
       at zero l = absurd (omega arith)
       at (suc m) l = refl
 
-  pub element-nonzero : (e : Elem E) → IsElem K L f e → (polynomials K.ring).same (poly_of K e.den) (polynomials K.ring).zero ≡ false
+  pub element-nonzero : (e : Elem E) → IsElem L f e → (polynomials K.ring).same (poly_of K e.den) (polynomials K.ring).zero ≡ false
   element-nonzero e h = lowest_nonzero F' (plane_of K f) (degree F' (plane_of K f)) (poly_of K e.den) (map (λ p. poly_of K p) e.num) h.lowest
 
   -- the product of two denominators is not 0
-  pub denominator-length : (d : List E) (a b : Elem E) → IsElem K L f a → IsElem K L f b → poly_of K d ≡ (polynomials K.ring).mul (poly_of K a.den) (poly_of K b.den) → 0 < length d
+  pub denominator-length : (d : List E) (a b : Elem E) → IsElem L f a → IsElem L f b → poly_of K d ≡ (polynomials K.ring).mul (poly_of K a.den) (poly_of K b.den) → 0 < length d
   denominator-length d a b ha hb h = nonzero-length K L d (ap (λ t. R.same t R.zero) h ∙ R.no_divisors (poly_of K a.den) (poly_of K b.den) (element-nonzero a ha) (element-nonzero b hb))
 
   -- sums and products
-  pub sum-value : (den : List E) (num : List (List E)) (a b : Elem E) → IsElem K L f a → IsElem K L f b → poly_of K den ≡ (polynomials K.ring).mul (poly_of K a.den) (poly_of K b.den)
+  pub sum-value : (den : List E) (num : List (List E)) (a b : Elem E) → IsElem L f a → IsElem L f b → poly_of K den ≡ (polynomials K.ring).mul (poly_of K a.den) (poly_of K b.den)
       → plane_of K num ≡ (polynomials (polynomials K.ring)).add ((polynomials (polynomials K.ring)).mul (monomial (polynomials K.ring) (poly_of K b.den) 0) (plane_of K a.num)) ((polynomials (polynomials K.ring)).mul (monomial (polynomials K.ring) (poly_of K a.den) 0) (plane_of K b.num))
-      → over_in K L f num den ≡ (algebra_in K L f).add (elem_of K L f a) (elem_of K L f b)
+      → over_in L f num den ≡ (algebra_in L f).add (elem_of L f a) (elem_of L f b)
   sum-value den num a b ha hb hd hn = ap₂ (over_of F' (plane_of K f)) hn hd ∙ sym (add_exact F' (plane_of K f) (poly_of K a.den) (poly_of K b.den) (map (λ p. poly_of K p) a.num) (map (λ p. poly_of K p) b.num) (element-nonzero a ha) (element-nonzero b hb))
 
-  pub product-exact : (den : List E) (num : List (List E)) (a b : Elem E) → IsElem K L f a → IsElem K L f b → poly_of K den ≡ (polynomials K.ring).mul (poly_of K a.den) (poly_of K b.den)
+  pub product-exact : (den : List E) (num : List (List E)) (a b : Elem E) → IsElem L f a → IsElem L f b → poly_of K den ≡ (polynomials K.ring).mul (poly_of K a.den) (poly_of K b.den)
       → plane_of K num ≡ (polynomials (polynomials K.ring)).mul (plane_of K a.num) (plane_of K b.num)
-      → over_in K L f num den ≡ (algebra_in K L f).mul (elem_of K L f a) (elem_of K L f b)
+      → over_in L f num den ≡ (algebra_in L f).mul (elem_of L f a) (elem_of L f b)
   product-exact den num a b ha hb hd hn = ap₂ (over_of F' (plane_of K f)) hn hd ∙ sym (mul_exact F' (plane_of K f) (poly_of K a.den) (poly_of K b.den) (map (λ p. poly_of K p) a.num) (map (λ p. poly_of K p) b.num) (element-nonzero a ha) (element-nonzero b hb))
 
   polys-one : ((a b : E) → IsElement K a → IsElement K b → K.value a ≡ K.value b → a ≡ b) → (v w : List (List E)) → All (λ p. IsPoly K p) v → All (λ p. IsPoly K p) w → map (λ p. poly_of K p) v ≡ map (λ p. poly_of K p) w → v ≡ w
@@ -180,7 +180,7 @@ module _ {E : Type 0} (K : Elements E) (L : Lawful K) (f : List (List E)) where
       ap₂ (λ p v. p ∷ v) (one_list K one L.laws L.tests p q (hv zero p (omega arith)) (hw zero q (omega arith)) h) (polys-one one v w (λ k d l. hv (suc k) d (omega arith)) (λ k d l. hw (suc k) d (omega arith)) t)
 
   -- each element of the algebra has one form
-  pub element-one : ((a b : E) → IsElement K a → IsElement K b → K.value a ≡ K.value b → a ≡ b) → (a b : Elem E) → IsElem K L f a → IsElem K L f b → elem_of K L f a ≡ elem_of K L f b → a ≡ b
+  pub element-one : ((a b : E) → IsElement K a → IsElement K b → K.value a ≡ K.value b → a ≡ b) → (a b : Elem E) → IsElem L f a → IsElem L f b → elem_of L f a ≡ elem_of L f b → a ≡ b
   element-one one a b ha hb e =
       let parts = one_form F' (plane_of K f) (poly_of K a.den) (poly_of K b.den) (map (λ p. poly_of K p) a.num) (map (λ p. poly_of K p) b.num) ha.lowest hb.lowest e in
       element-path (one_list K one L.laws L.tests a.den b.den ha.den hb.den parts.0) (polys-one one a.num b.num ha.num hb.num parts.1)
@@ -193,9 +193,9 @@ module _ {E : Type 0} (K : Elements E) (L : Lawful K) (f : List (List E)) where
   power-nonzero zero d h = R.proper
   power-nonzero (suc n) d h = R.no_divisors d (power (polynomials K.ring) d n) h (power-nonzero n d h)
 
-  pub power-length : (n : ℕ) (den : List E) (a : Elem E) → IsElem K L f a → poly_of K den ≡ power (polynomials K.ring) (poly_of K a.den) n → 0 < length den
+  pub power-length : (n : ℕ) (den : List E) (a : Elem E) → IsElem L f a → poly_of K den ≡ power (polynomials K.ring) (poly_of K a.den) n → 0 < length den
   power-length n den a ha h = nonzero-length K L den (ap (λ t. R.same t R.zero) h ∙ power-nonzero n (poly_of K a.den) (element-nonzero a ha))
 
-  pub power-value : (n : ℕ) (den : List E) (num : List (List E)) (a : Elem E) → IsElem K L f a → poly_of K den ≡ power (polynomials K.ring) (poly_of K a.den) n → plane_of K num ≡ power (polynomials (polynomials K.ring)) (plane_of K a.num) n
-      → over_in K L f num den ≡ power (algebra_in K L f) (elem_of K L f a) n
+  pub power-value : (n : ℕ) (den : List E) (num : List (List E)) (a : Elem E) → IsElem L f a → poly_of K den ≡ power (polynomials K.ring) (poly_of K a.den) n → plane_of K num ≡ power (polynomials (polynomials K.ring)) (plane_of K a.num) n
+      → over_in L f num den ≡ power (algebra_in L f) (elem_of L f a) n
   power-value n den num a ha hd hn = ap₂ (over_of F' (plane_of K f)) hn hd ∙ sym (power_exact F' (plane_of K f) n (poly_of K a.den) (map (λ p. poly_of K p) a.num) (element-nonzero a ha) (power-nonzero n (poly_of K a.den) (element-nonzero a ha)))

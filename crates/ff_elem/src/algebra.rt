@@ -37,9 +37,9 @@ where
         requires has_y { 1 < length f.now }
         ensures field { IfOk result (λ r. r.k ≡ k) }
         ensures equation { IfOk result (λ r. r.f ≡ f.now) }
-        ensures ring { IfOk result (λ _. IsCommRing (algebra_in (K.elements k) (K.lawful k) f.now)) }
-        ensures forms { IfOk result (λ _. (a : (algebra_in (K.elements k) (K.lawful k) f.now).carrier) → Form (lawful_field (K.elements k) (K.lawful k)) (plane_of (K.elements k) f.now) a) }
-        ensures proper { IfOk result (λ _. ¬ ((algebra_in (K.elements k) (K.lawful k) f.now).one ≡ (algebra_in (K.elements k) (K.lawful k) f.now).zero)) }
+        ensures ring { IfOk result (λ _. IsCommRing (algebra_in (K.lawful k) f.now)) }
+        ensures forms { IfOk result (λ _. (a : (algebra_in (K.lawful k) f.now).carrier) → Form (lawful_field (K.lawful k)) (plane_of (K.elements k) f.now) a) }
+        ensures proper { IfOk result (λ _. ¬ ((algebra_in (K.lawful k) f.now).one ≡ (algebra_in (K.lawful k) f.now).zero)) }
     {
         let f = f.copy(alloc)?;
         Ok(Alg { k, f })
@@ -61,8 +61,8 @@ where
 
     /// The element 0. The only error is want of memory.
     pub fn zero(&self, alloc: Global) -> Result<Elem<K::E>, NoMemory>
-        ensures element { IfOk result (λ r. IsElem (K.elements self.now.k) (K.lawful self.now.k) self.now.f r) }
-        ensures value { IfOk result (λ r. elem_of (K.elements self.now.k) (K.lawful self.now.k) self.now.f r ≡ (algebra_in (K.elements self.now.k) (K.lawful self.now.k) self.now.f).zero) }
+        ensures element { IfOk result (λ r. IsElem (K.lawful self.now.k) self.now.f r) }
+        ensures value { IfOk result (λ r. elem_of (K.lawful self.now.k) self.now.f r ≡ (algebra_in (K.lawful self.now.k) self.now.f).zero) }
     {
         let one = Poly::one(alloc, &self.k)?;
         let rows = Vec::new(alloc);
@@ -71,8 +71,8 @@ where
 
     /// The element 1. The only error is want of memory.
     pub fn one(&self, alloc: Global) -> Result<Elem<K::E>, NoMemory>
-        ensures element { IfOk result (λ r. IsElem (K.elements self.now.k) (K.lawful self.now.k) self.now.f r) }
-        ensures value { IfOk result (λ r. elem_of (K.elements self.now.k) (K.lawful self.now.k) self.now.f r ≡ (algebra_in (K.elements self.now.k) (K.lawful self.now.k) self.now.f).one) }
+        ensures element { IfOk result (λ r. IsElem (K.lawful self.now.k) self.now.f r) }
+        ensures value { IfOk result (λ r. elem_of (K.lawful self.now.k) self.now.f r ≡ (algebra_in (K.lawful self.now.k) self.now.f).one) }
     {
         let one = Poly::one(alloc, &self.k)?;
         let rows = single(alloc, one.copy(alloc)?)?;
@@ -81,8 +81,8 @@ where
 
     /// The element x. The only error is want of memory.
     pub fn x(&self, alloc: Global) -> Result<Elem<K::E>, NoMemory>
-        ensures element { IfOk result (λ r. IsElem (K.elements self.now.k) (K.lawful self.now.k) self.now.f r) }
-        ensures value { IfOk result (λ r. elem_of (K.elements self.now.k) (K.lawful self.now.k) self.now.f r ≡ x_in (K.elements self.now.k) (K.lawful self.now.k) self.now.f) }
+        ensures element { IfOk result (λ r. IsElem (K.lawful self.now.k) self.now.f r) }
+        ensures value { IfOk result (λ r. elem_of (K.lawful self.now.k) self.now.f r ≡ x_in (K.lawful self.now.k) self.now.f) }
     {
         let one = Poly::one(alloc, &self.k)?;
         let x = Poly::from_coeffs(alloc, &self.k, &[self.k.zero(), self.k.one()])?;
@@ -92,8 +92,8 @@ where
 
     /// The element y, reduced by the equation. The only error is want of memory.
     pub fn y(&self, alloc: Global) -> Result<Elem<K::E>, NoMemory>
-        ensures element { IfOk result (λ r. IsElem (K.elements self.now.k) (K.lawful self.now.k) self.now.f r) }
-        ensures value { IfOk result (λ r. elem_of (K.elements self.now.k) (K.lawful self.now.k) self.now.f r ≡ y_in (K.elements self.now.k) (K.lawful self.now.k) self.now.f) }
+        ensures element { IfOk result (λ r. IsElem (K.lawful self.now.k) self.now.f r) }
+        ensures value { IfOk result (λ r. elem_of (K.lawful self.now.k) self.now.f r ≡ y_in (K.lawful self.now.k) self.now.f) }
     {
         let one = Poly::one(alloc, &self.k)?;
         let mut rows = single(alloc, Poly::zero(alloc))?;
@@ -111,17 +111,17 @@ where
         requires num { IsPlane (K.elements self.now.k) num.now }
         requires den { IsPoly (K.elements self.now.k) den.now }
         requires nonzero { 0 < length den.now }
-        ensures element { IfOk result (λ r. IsElem (K.elements self.now.k) (K.lawful self.now.k) self.now.f r) }
-        ensures value { IfOk result (λ r. elem_of (K.elements self.now.k) (K.lawful self.now.k) self.now.f r ≡ over_in (K.elements self.now.k) (K.lawful self.now.k) self.now.f num.now den.now) }
+        ensures element { IfOk result (λ r. IsElem (K.lawful self.now.k) self.now.f r) }
+        ensures value { IfOk result (λ r. elem_of (K.lawful self.now.k) self.now.f r ≡ over_in (K.lawful self.now.k) self.now.f num.now den.now) }
     {
         quotient(alloc, &self.k, &self.f, num.rows(), den)
     }
 
     /// Whether two elements are the same, which they are exactly where their parts are.
     pub fn same(&self, a: &Elem<K::E>, b: &Elem<K::E>) -> bool
-        requires a { IsElem (K.elements self.now.k) (K.lawful self.now.k) self.now.f a.now }
-        requires b { IsElem (K.elements self.now.k) (K.lawful self.now.k) self.now.f b.now }
-        ensures value { IsTrue result ↔ (elem_of (K.elements self.now.k) (K.lawful self.now.k) self.now.f a.now ≡ elem_of (K.elements self.now.k) (K.lawful self.now.k) self.now.f b.now) }
+        requires a { IsElem (K.lawful self.now.k) self.now.f a.now }
+        requires b { IsElem (K.lawful self.now.k) self.now.f b.now }
+        ensures value { IsTrue result ↔ (elem_of (K.lawful self.now.k) self.now.f a.now ≡ elem_of (K.lawful self.now.k) self.now.f b.now) }
         ensures parts { IsTrue result ↔ (a.now ≡ b.now) }
     {
         a.same(&self.k, b)
@@ -129,10 +129,10 @@ where
 
     /// The sum. The only error is want of memory.
     pub fn add(&self, alloc: Global, a: &Elem<K::E>, b: &Elem<K::E>) -> Result<Elem<K::E>, NoMemory>
-        requires a { IsElem (K.elements self.now.k) (K.lawful self.now.k) self.now.f a.now }
-        requires b { IsElem (K.elements self.now.k) (K.lawful self.now.k) self.now.f b.now }
-        ensures element { IfOk result (λ r. IsElem (K.elements self.now.k) (K.lawful self.now.k) self.now.f r) }
-        ensures value { IfOk result (λ r. elem_of (K.elements self.now.k) (K.lawful self.now.k) self.now.f r ≡ (algebra_in (K.elements self.now.k) (K.lawful self.now.k) self.now.f).add (elem_of (K.elements self.now.k) (K.lawful self.now.k) self.now.f a.now) (elem_of (K.elements self.now.k) (K.lawful self.now.k) self.now.f b.now)) }
+        requires a { IsElem (K.lawful self.now.k) self.now.f a.now }
+        requires b { IsElem (K.lawful self.now.k) self.now.f b.now }
+        ensures element { IfOk result (λ r. IsElem (K.lawful self.now.k) self.now.f r) }
+        ensures value { IfOk result (λ r. elem_of (K.lawful self.now.k) self.now.f r ≡ (algebra_in (K.lawful self.now.k) self.now.f).add (elem_of (K.lawful self.now.k) self.now.f a.now) (elem_of (K.lawful self.now.k) self.now.f b.now)) }
     {
         let den = a.den.checked_mul(alloc, &self.k, &b.den)?;
         let num = combination(
@@ -149,9 +149,9 @@ where
 
     /// The negative. The only error is want of memory.
     pub fn neg(&self, alloc: Global, a: &Elem<K::E>) -> Result<Elem<K::E>, NoMemory>
-        requires { IsElem (K.elements self.now.k) (K.lawful self.now.k) self.now.f a.now }
-        ensures element { IfOk result (λ r. IsElem (K.elements self.now.k) (K.lawful self.now.k) self.now.f r) }
-        ensures value { IfOk result (λ r. elem_of (K.elements self.now.k) (K.lawful self.now.k) self.now.f r ≡ (algebra_in (K.elements self.now.k) (K.lawful self.now.k) self.now.f).neg (elem_of (K.elements self.now.k) (K.lawful self.now.k) self.now.f a.now)) }
+        requires { IsElem (K.lawful self.now.k) self.now.f a.now }
+        ensures element { IfOk result (λ r. IsElem (K.lawful self.now.k) self.now.f r) }
+        ensures value { IfOk result (λ r. elem_of (K.lawful self.now.k) self.now.f r ≡ (algebra_in (K.lawful self.now.k) self.now.f).neg (elem_of (K.lawful self.now.k) self.now.f a.now)) }
     {
         Ok(Elem {
             den: a.den.copy(alloc)?,
@@ -163,10 +163,10 @@ where
 
     /// The product. The only error is want of memory.
     pub fn mul(&self, alloc: Global, a: &Elem<K::E>, b: &Elem<K::E>) -> Result<Elem<K::E>, NoMemory>
-        requires a { IsElem (K.elements self.now.k) (K.lawful self.now.k) self.now.f a.now }
-        requires b { IsElem (K.elements self.now.k) (K.lawful self.now.k) self.now.f b.now }
-        ensures element { IfOk result (λ r. IsElem (K.elements self.now.k) (K.lawful self.now.k) self.now.f r) }
-        ensures value { IfOk result (λ r. elem_of (K.elements self.now.k) (K.lawful self.now.k) self.now.f r ≡ (algebra_in (K.elements self.now.k) (K.lawful self.now.k) self.now.f).mul (elem_of (K.elements self.now.k) (K.lawful self.now.k) self.now.f a.now) (elem_of (K.elements self.now.k) (K.lawful self.now.k) self.now.f b.now)) }
+        requires a { IsElem (K.lawful self.now.k) self.now.f a.now }
+        requires b { IsElem (K.lawful self.now.k) self.now.f b.now }
+        ensures element { IfOk result (λ r. IsElem (K.lawful self.now.k) self.now.f r) }
+        ensures value { IfOk result (λ r. elem_of (K.lawful self.now.k) self.now.f r ≡ (algebra_in (K.lawful self.now.k) self.now.f).mul (elem_of (K.lawful self.now.k) self.now.f a.now) (elem_of (K.lawful self.now.k) self.now.f b.now)) }
     {
         let den = a.den.checked_mul(alloc, &self.k, &b.den)?;
         let num = plane_product(alloc, &self.k, a.num.rows(), b.num.rows())?;

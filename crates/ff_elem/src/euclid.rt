@@ -1,8 +1,7 @@
 // Euclid's algorithm on the equation and an element, without fractions.
 ghost use Rattle.std.specs.Prelude.{◌≡◌, ℕ, ◌≤◌, ◌<◌, ◌+◌, ◌-◌, ◌++◌, length, max, map, IfOk};
 ghost use Rattle.std.specs.List.{All};
-ghost use Rattle.ff_theory.specs.Poly.{polynomials};
-ghost use Rattle.ff_poly.specs.Words.{poly_of, IsPoly, plane_of, IsPlane};
+ghost use Rattle.ff_poly.specs.Words.{poly_of, IsPoly, plane_of, IsPlane, polys_over, planes_over};
 ghost use Rattle.ff_poly.specs.Monomial.{monomial};
 ghost use Rattle.ff_elem.specs.Elem.{algebra_in, plane_in};
 ghost use Rattle.ff_elem.specs.Euclid.{IsPair, IsStep};
@@ -37,7 +36,7 @@ fn sum_of<E: Coefficient, K: FiniteField<E = E>>(
     requires b { All (λ p. IsPoly (K.elements k.now) p) b.now }
     ensures len { IfOk result (λ r. length r ≤ max (at + length b.now) (length a.now)) }
     ensures plane { IfOk result (λ r. IsPlane (K.elements k.now) r) }
-    ensures value { IfOk result (λ r. plane_of (K.elements k.now) r ≡ (polynomials (polynomials (K.elements k.now).ring)).add ((polynomials (polynomials (K.elements k.now).ring)).mul (monomial (polynomials (K.elements k.now).ring) (poly_of (K.elements k.now) e.now) 0) (plane_of (K.elements k.now) a.now)) ((polynomials (polynomials (K.elements k.now).ring)).mul (monomial (polynomials (K.elements k.now).ring) (poly_of (K.elements k.now) q.now) at) (plane_of (K.elements k.now) b.now))) }
+    ensures value { IfOk result (λ r. plane_of (K.elements k.now) r ≡ (planes_over (K.elements k.now)).add ((planes_over (K.elements k.now)).mul (monomial (polys_over (K.elements k.now)) (poly_of (K.elements k.now) e.now) 0) (plane_of (K.elements k.now) a.now)) ((planes_over (K.elements k.now)).mul (monomial (polys_over (K.elements k.now)) (poly_of (K.elements k.now) q.now) at) (plane_of (K.elements k.now) b.now))) }
 {
     let rows = combination(alloc, k, e, a, q, at, b)?;
     let sum = Plane::from_rows(alloc, k, &rows)?;
@@ -158,7 +157,7 @@ pub fn euclid<E: Coefficient, K: FiniteField<E = E>>(
     requires a { All (λ p. IsPoly (K.elements k.now) p) a.now }
     ensures pair { IfOk result (λ r. IsPair (K.elements k.now) r) }
     ensures short { IfOk result (λ r. length r.value ≤ 1) }
-    ensures value { IfOk result (λ r. (algebra_in (K.elements k.now) (K.lawful k.now) f.now).mul (plane_in (K.elements k.now) (K.lawful k.now) f.now r.factor) (plane_in (K.elements k.now) (K.lawful k.now) f.now a.now) ≡ plane_in (K.elements k.now) (K.lawful k.now) f.now r.value) }
+    ensures value { IfOk result (λ r. (algebra_in (K.lawful k.now) f.now).mul (plane_in (K.lawful k.now) f.now r.factor) (plane_in (K.lawful k.now) f.now a.now) ≡ plane_in (K.lawful k.now) f.now r.value) }
     ensures divisor { IfOk result (λ r. length r.value ≡ 0 → (0 < length r.factor) × (length r.factor < length f.now)) }
 {
     let zero = Vec::new(alloc);

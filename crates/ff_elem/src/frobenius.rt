@@ -2,8 +2,7 @@
 ghost use Rattle.std.specs.Prelude.{◌≡◌, ◌<◌, ◌-◌, map, IfOk, OnOk};
 ghost use Rattle.std.specs.List.{All};
 ghost use Rattle.ff_theory.specs.Ring.{IsElement, power};
-ghost use Rattle.ff_theory.specs.Poly.{polynomials};
-ghost use Rattle.ff_poly.specs.Words.{poly_of, IsPoly, plane_of};
+ghost use Rattle.ff_poly.specs.Words.{poly_of, IsPoly, plane_of, polys_over, planes_over};
 ghost use Rattle.ff_elem.specs.Elem.{algebra_in, elem_of, IsElem};
 ghost use Rattle.ff_elem.specs.Zeros.{AddsZeros};
 
@@ -39,7 +38,7 @@ fn push_zero_rows<E: Coefficient, K: FiniteField<E = E>>(
 ) -> Result<(), NoMemory>
     requires { All (λ p. IsPoly (K.elements k.now) p) rows.old.items }
     ensures each { OnOk result (All (λ p. IsPoly (K.elements k.now) p) rows.new.items) }
-    ensures zeros { OnOk result (AddsZeros (polynomials (K.elements k.now).ring) (λ p. poly_of (K.elements k.now) p) rows.old.items rows.new.items n) }
+    ensures zeros { OnOk result (AddsZeros (polys_over (K.elements k.now)) (λ p. poly_of (K.elements k.now) p) rows.old.items rows.new.items n) }
 {
     let _field = k;
     for _i in 0..n {
@@ -56,7 +55,7 @@ fn poly_power<E: Coefficient, K: FiniteField<E = E>>(
 ) -> Result<Poly<E>, NoMemory>
     requires { IsPoly (K.elements k.now) p.now }
     ensures poly { IfOk result (λ r. IsPoly (K.elements k.now) r) }
-    ensures value { IfOk result (λ r. poly_of (K.elements k.now) r ≡ power (polynomials (K.elements k.now).ring) (poly_of (K.elements k.now) p.now) (K.elements k.now).characteristic) }
+    ensures value { IfOk result (λ r. poly_of (K.elements k.now) r ≡ power (polys_over (K.elements k.now)) (poly_of (K.elements k.now) p.now) (K.elements k.now).characteristic) }
 {
     let between = k.characteristic() - 1;
     let mut list = Vec::new(alloc);
@@ -76,7 +75,7 @@ fn rows_power<E: Coefficient, K: FiniteField<E = E>>(
 ) -> Result<Vec<Poly<E>>, NoMemory>
     requires { All (λ p. IsPoly (K.elements k.now) p) rows.now }
     ensures each { IfOk result (λ r. All (λ p. IsPoly (K.elements k.now) p) r.items) }
-    ensures value { IfOk result (λ r. plane_of (K.elements k.now) r.items ≡ power (polynomials (polynomials (K.elements k.now).ring)) (plane_of (K.elements k.now) rows.now) (K.elements k.now).characteristic) }
+    ensures value { IfOk result (λ r. plane_of (K.elements k.now) r.items ≡ power (planes_over (K.elements k.now)) (plane_of (K.elements k.now) rows.now) (K.elements k.now).characteristic) }
 {
     let between = k.characteristic() - 1;
     let mut powers = Vec::new(alloc);
@@ -94,9 +93,9 @@ where
     /// The power to the characteristic: that of each coefficient, with the powers of x and y multiplied by it.
     /// The only error is want of memory.
     pub fn frob(&self, alloc: Global, a: &Elem<K::E>) -> Result<Elem<K::E>, NoMemory>
-        requires { IsElem (K.elements self.now.k) (K.lawful self.now.k) self.now.f a.now }
-        ensures element { IfOk result (λ r. IsElem (K.elements self.now.k) (K.lawful self.now.k) self.now.f r) }
-        ensures value { IfOk result (λ r. elem_of (K.elements self.now.k) (K.lawful self.now.k) self.now.f r ≡ power (algebra_in (K.elements self.now.k) (K.lawful self.now.k) self.now.f) (elem_of (K.elements self.now.k) (K.lawful self.now.k) self.now.f a.now) (K.elements self.now.k).characteristic) }
+        requires { IsElem (K.lawful self.now.k) self.now.f a.now }
+        ensures element { IfOk result (λ r. IsElem (K.lawful self.now.k) self.now.f r) }
+        ensures value { IfOk result (λ r. elem_of (K.lawful self.now.k) self.now.f r ≡ power (algebra_in (K.lawful self.now.k) self.now.f) (elem_of (K.lawful self.now.k) self.now.f a.now) (K.elements self.now.k).characteristic) }
     {
         let den = poly_power(alloc, &self.k, &a.den)?;
         let num = rows_power(alloc, &self.k, a.num.rows())?;

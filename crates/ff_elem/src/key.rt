@@ -106,7 +106,7 @@ where
     /// The key: the number of coefficients of the denominator and these from the leading one down, by their index,
     /// and then the same of each numerator, by rising power of y. The only error is want of memory.
     pub fn key(&self, alloc: Global, a: &Elem<K::E>) -> Result<Vec<u64>, NoMemory>
-        requires { IsElem (K.elements self.now.k) (K.lawful self.now.k) self.now.f a.now }
+        requires { IsElem (K.lawful self.now.k) self.now.f a.now }
         ensures { IfOk result (λ r. r.items ≡ elem_key (K.elements self.now.k) a.now) }
     {
         let mut key = Vec::new(alloc);
@@ -117,10 +117,10 @@ where
 
     /// The dictionary order of the keys. Elements with the same key are the same.
     pub fn compare(&self, a: &Elem<K::E>, b: &Elem<K::E>) -> Ordering
-        requires a { IsElem (K.elements self.now.k) (K.lawful self.now.k) self.now.f a.now }
-        requires b { IsElem (K.elements self.now.k) (K.lawful self.now.k) self.now.f b.now }
+        requires a { IsElem (K.lawful self.now.k) self.now.f a.now }
+        requires b { IsElem (K.lawful self.now.k) self.now.f b.now }
         ensures order { result ≡ key_cmp (elem_key (K.elements self.now.k) a.now) (elem_key (K.elements self.now.k) b.now) }
-        ensures equal { (result ≡ Equal) ↔ (elem_of (K.elements self.now.k) (K.lawful self.now.k) self.now.f a.now ≡ elem_of (K.elements self.now.k) (K.lawful self.now.k) self.now.f b.now) }
+        ensures equal { (result ≡ Equal) ↔ (elem_of (K.lawful self.now.k) self.now.f a.now ≡ elem_of (K.lawful self.now.k) self.now.f b.now) }
     {
         let order = compare_polys(&self.k, &a.den, &b.den);
         if order.is_ne() {

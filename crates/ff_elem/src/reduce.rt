@@ -1,8 +1,7 @@
 // Reduction modulo the equation, fraction by fraction: a multiple of a polynomial in x and y, of low y-degree.
 ghost use Rattle.std.specs.Prelude.{◌≡◌, List, ◌≤◌, ◌<◌, ◌+◌, ◌-◌, ◌∷◌, [], length, map, max, get_or, IfOk, IsTrue};
 ghost use Rattle.std.specs.List.{All};
-ghost use Rattle.ff_theory.specs.Poly.{polynomials};
-ghost use Rattle.ff_poly.specs.Words.{poly_of, IsPoly, plane_of, IsPlane};
+ghost use Rattle.ff_poly.specs.Words.{poly_of, IsPoly, plane_of, IsPlane, polys_over};
 ghost use Rattle.ff_elem.specs.Elem.{algebra_in, plane_in, poly_in};
 
 use crate::rows::{combination, copies};
@@ -22,7 +21,7 @@ pub fn multipliers<E: Coefficient, K: FiniteField<E = E>>(
     requires nonzero { 0 < length lead.now }
     ensures polys { IfOk result (λ r. IsPoly (K.elements k.now) r.0 × IsPoly (K.elements k.now) r.1) }
     ensures nonzero { IfOk result (λ r. 0 < length r.0) }
-    ensures cancel { IfOk result (λ r. (polynomials (K.elements k.now).ring).add ((polynomials (K.elements k.now).ring).mul (poly_of (K.elements k.now) r.0) (poly_of (K.elements k.now) top.now)) ((polynomials (K.elements k.now).ring).mul (poly_of (K.elements k.now) r.1) (poly_of (K.elements k.now) lead.now)) ≡ (polynomials (K.elements k.now).ring).zero) }
+    ensures cancel { IfOk result (λ r. (polys_over (K.elements k.now)).add ((polys_over (K.elements k.now)).mul (poly_of (K.elements k.now) r.0) (poly_of (K.elements k.now) top.now)) ((polys_over (K.elements k.now)).mul (poly_of (K.elements k.now) r.1) (poly_of (K.elements k.now) lead.now)) ≡ (polys_over (K.elements k.now)).zero) }
 {
     if top.is_zero() {
         return Ok((Poly::one(alloc, k)?, Poly::zero(alloc)));
@@ -54,7 +53,7 @@ fn lowered<E: Coefficient, K: FiniteField<E = E>>(
     ensures polys { IfOk result (λ r. IsPoly (K.elements k.now) r.0 × All (λ p. IsPoly (K.elements k.now) p) r.1.items) }
     ensures nonzero { IfOk result (λ r. 0 < length r.0) }
     ensures len { IfOk result (λ r. length r.1.items + 1 ≡ length f.now) }
-    ensures value { IfOk result (λ r. plane_in (K.elements k.now) (K.lawful k.now) f.now r.1.items ≡ (algebra_in (K.elements k.now) (K.lawful k.now) f.now).mul (poly_in (K.elements k.now) (K.lawful k.now) f.now r.0) (plane_in (K.elements k.now) (K.lawful k.now) f.now rows.now)) }
+    ensures value { IfOk result (λ r. plane_in (K.lawful k.now) f.now r.1.items ≡ (algebra_in (K.lawful k.now) f.now).mul (poly_in (K.lawful k.now) f.now r.0) (plane_in (K.lawful k.now) f.now rows.now)) }
 {
     let n = f.len() - 1;
     let (e, q) = multipliers(alloc, k, &rows[n], &f[n])?;
@@ -82,7 +81,7 @@ fn next<E: Coefficient, K: FiniteField<E = E>>(
     ensures polys { IfOk result (λ r. IsPoly (K.elements k.now) r.0 × All (λ p. IsPoly (K.elements k.now) p) r.1.items) }
     ensures nonzero { IfOk result (λ r. 0 < length r.0) }
     ensures small { IfOk result (λ r. length r.1.items < length f.now) }
-    ensures value { IfOk result (λ r. (w : List (List E)) → plane_in (K.elements k.now) (K.lawful k.now) f.now rest.items ≡ (algebra_in (K.elements k.now) (K.lawful k.now) f.now).mul (poly_in (K.elements k.now) (K.lawful k.now) f.now c) (plane_in (K.elements k.now) (K.lawful k.now) f.now w) → plane_in (K.elements k.now) (K.lawful k.now) f.now r.1.items ≡ (algebra_in (K.elements k.now) (K.lawful k.now) f.now).mul (poly_in (K.elements k.now) (K.lawful k.now) f.now r.0) (plane_in (K.elements k.now) (K.lawful k.now) f.now (p.now ∷ w))) }
+    ensures value { IfOk result (λ r. (w : List (List E)) → plane_in (K.lawful k.now) f.now rest.items ≡ (algebra_in (K.lawful k.now) f.now).mul (poly_in (K.lawful k.now) f.now c) (plane_in (K.lawful k.now) f.now w) → plane_in (K.lawful k.now) f.now r.1.items ≡ (algebra_in (K.lawful k.now) f.now).mul (poly_in (K.lawful k.now) f.now r.0) (plane_in (K.lawful k.now) f.now (p.now ∷ w))) }
 {
     let mut raised = rest;
     raised.insert(0, c.checked_mul(alloc, k, p)?)?;
@@ -107,7 +106,7 @@ pub fn reduce<E: Coefficient, K: FiniteField<E = E>>(
     ensures polys { IfOk result (λ r. IsPoly (K.elements k.now) r.0 × All (λ p. IsPoly (K.elements k.now) p) r.1.items) }
     ensures nonzero { IfOk result (λ r. 0 < length r.0) }
     ensures small { IfOk result (λ r. length r.1.items < length f.now) }
-    ensures value { IfOk result (λ r. plane_in (K.elements k.now) (K.lawful k.now) f.now r.1.items ≡ (algebra_in (K.elements k.now) (K.lawful k.now) f.now).mul (poly_in (K.elements k.now) (K.lawful k.now) f.now r.0) (plane_in (K.elements k.now) (K.lawful k.now) f.now rows.now)) }
+    ensures value { IfOk result (λ r. plane_in (K.lawful k.now) f.now r.1.items ≡ (algebra_in (K.lawful k.now) f.now).mul (poly_in (K.lawful k.now) f.now r.0) (plane_in (K.lawful k.now) f.now rows.now)) }
 {
     let mut i = rows.len().saturating_sub(f.len() - 1);
     let mut c = Poly::one(alloc, k)?;

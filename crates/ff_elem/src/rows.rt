@@ -1,9 +1,9 @@
 // Arithmetic on rows: polynomials in x by rising power of y.
 ghost use Rattle.std.specs.Prelude.{◌≡◌, ◌≤◌, ◌<◌, ◌+◌, ◌-◌, ◌^◌, ◌↔◌, ◌∷◌, [], length, map, max, get_or, IfOk, IfSome, IsTrue};
 ghost use Rattle.std.specs.List.{All};
-ghost use Rattle.ff_theory.specs.Poly.{coeff, list_scale, polynomials};
+ghost use Rattle.ff_theory.specs.Poly.{coeff, list_scale};
 ghost use Rattle.ff_poly.specs.Monomial.{raised, monomial};
-ghost use Rattle.ff_poly.specs.Words.{poly_of, IsPoly, plane_of, IsPlane, x_size};
+ghost use Rattle.ff_poly.specs.Words.{poly_of, IsPoly, plane_of, IsPlane, x_size, polys_over, planes_over};
 
 use ff_alg::{Coefficient, FiniteField, NoMemory, same};
 use ff_poly::{Plane, Poly};
@@ -12,7 +12,7 @@ use std::alloc::Global;
 /// Whether a polynomial is 1.
 pub fn is_one<E: Coefficient, K: FiniteField<E = E>>(k: &K, p: &Poly<E>) -> bool
     requires { IsPoly (K.elements k.now) p.now }
-    ensures { IsTrue result → poly_of (K.elements k.now) p.now ≡ (polynomials (K.elements k.now).ring).one }
+    ensures { IsTrue result → poly_of (K.elements k.now) p.now ≡ (polys_over (K.elements k.now)).one }
 {
     let coeffs = p.coeffs();
     if coeffs.len() != 1 {
@@ -33,7 +33,7 @@ fn plus_product<E: Coefficient, K: FiniteField<E = E>>(
     requires q { IsPoly (K.elements k.now) q.now }
     requires b { IsPoly (K.elements k.now) b.now }
     ensures poly { IfOk result (λ r. IsPoly (K.elements k.now) r) }
-    ensures value { IfOk result (λ r. poly_of (K.elements k.now) r ≡ (polynomials (K.elements k.now).ring).add (poly_of (K.elements k.now) a.now) ((polynomials (K.elements k.now).ring).mul (poly_of (K.elements k.now) q.now) (poly_of (K.elements k.now) b.now))) }
+    ensures value { IfOk result (λ r. poly_of (K.elements k.now) r ≡ (polys_over (K.elements k.now)).add (poly_of (K.elements k.now) a.now) ((polys_over (K.elements k.now)).mul (poly_of (K.elements k.now) q.now) (poly_of (K.elements k.now) b.now))) }
 {
     let product = q.checked_mul(alloc, k, b)?;
     a.add(alloc, k, &product)
@@ -102,7 +102,7 @@ fn plus_multiple_row<E: Coefficient, K: FiniteField<E = E>>(
     requires q { IsPoly (K.elements k.now) q.now }
     requires b { All (λ p. IsPoly (K.elements k.now) p) b.now }
     ensures poly { IfOk result (λ r. IsPoly (K.elements k.now) r) }
-    ensures value { IfOk result (λ r. poly_of (K.elements k.now) r ≡ (polynomials (K.elements k.now).ring).add (coeff (polynomials (K.elements k.now).ring) (map (λ p. poly_of (K.elements k.now) p) a.now) i) (coeff (polynomials (K.elements k.now).ring) (raised (polynomials (K.elements k.now).ring) at (list_scale (polynomials (K.elements k.now).ring) (poly_of (K.elements k.now) q.now) (map (λ p. poly_of (K.elements k.now) p) b.now))) i)) }
+    ensures value { IfOk result (λ r. poly_of (K.elements k.now) r ≡ (polys_over (K.elements k.now)).add (coeff (polys_over (K.elements k.now)) (map (λ p. poly_of (K.elements k.now) p) a.now) i) (coeff (polys_over (K.elements k.now)) (raised (polys_over (K.elements k.now)) at (list_scale (polys_over (K.elements k.now)) (poly_of (K.elements k.now) q.now) (map (λ p. poly_of (K.elements k.now) p) b.now))) i)) }
 {
     let zero = Poly::zero(alloc);
     plus_product(alloc, k, row(a, i, &zero), q, raised_row(b, at, i, &zero))
@@ -122,7 +122,7 @@ fn plus_multiple<E: Coefficient, K: FiniteField<E = E>>(
     requires b { All (λ p. IsPoly (K.elements k.now) p) b.now }
     ensures len { IfOk result (λ r. length r.items ≡ max (at + length b.now) (length a.now)) }
     ensures each { IfOk result (λ r. All (λ p. IsPoly (K.elements k.now) p) r.items) }
-    ensures value { IfOk result (λ r. plane_of (K.elements k.now) r.items ≡ (polynomials (polynomials (K.elements k.now).ring)).add (plane_of (K.elements k.now) a.now) ((polynomials (polynomials (K.elements k.now).ring)).mul (monomial (polynomials (K.elements k.now).ring) (poly_of (K.elements k.now) q.now) at) (plane_of (K.elements k.now) b.now))) }
+    ensures value { IfOk result (λ r. plane_of (K.elements k.now) r.items ≡ (planes_over (K.elements k.now)).add (plane_of (K.elements k.now) a.now) ((planes_over (K.elements k.now)).mul (monomial (polys_over (K.elements k.now)) (poly_of (K.elements k.now) q.now) at) (plane_of (K.elements k.now) b.now))) }
 {
     let end = at.checked_add(b.len()).ok_or(NoMemory)?;
     let n = end.max(a.len());
@@ -144,7 +144,7 @@ pub fn scaled<E: Coefficient, K: FiniteField<E = E>>(
     requires a { All (λ p. IsPoly (K.elements k.now) p) a.now }
     ensures len { IfOk result (λ r. length r.items ≡ length a.now) }
     ensures each { IfOk result (λ r. All (λ p. IsPoly (K.elements k.now) p) r.items) }
-    ensures value { IfOk result (λ r. plane_of (K.elements k.now) r.items ≡ (polynomials (polynomials (K.elements k.now).ring)).mul (monomial (polynomials (K.elements k.now).ring) (poly_of (K.elements k.now) e.now) 0) (plane_of (K.elements k.now) a.now)) }
+    ensures value { IfOk result (λ r. plane_of (K.elements k.now) r.items ≡ (planes_over (K.elements k.now)).mul (monomial (polys_over (K.elements k.now)) (poly_of (K.elements k.now) e.now) 0) (plane_of (K.elements k.now) a.now)) }
 {
     let mut rows = Vec::with_capacity(alloc, a.len())?;
     for p in a {
@@ -161,7 +161,7 @@ pub fn negatives<E: Coefficient, K: FiniteField<E = E>>(
 ) -> Result<Vec<Poly<E>>, NoMemory>
     requires { All (λ p. IsPoly (K.elements k.now) p) a.now }
     ensures each { IfOk result (λ r. All (λ p. IsPoly (K.elements k.now) p) r.items) }
-    ensures value { IfOk result (λ r. map (λ p. poly_of (K.elements k.now) p) r.items ≡ map (λ p. (polynomials (K.elements k.now).ring).neg (poly_of (K.elements k.now) p)) a.now) }
+    ensures value { IfOk result (λ r. map (λ p. poly_of (K.elements k.now) p) r.items ≡ map (λ p. (polys_over (K.elements k.now)).neg (poly_of (K.elements k.now) p)) a.now) }
 {
     let mut rows = Vec::with_capacity(alloc, a.len())?;
     for p in a {
@@ -186,7 +186,7 @@ pub fn combination<E: Coefficient, K: FiniteField<E = E>>(
     requires b { All (λ p. IsPoly (K.elements k.now) p) b.now }
     ensures len { IfOk result (λ r. length r.items ≡ max (at + length b.now) (length a.now)) }
     ensures each { IfOk result (λ r. All (λ p. IsPoly (K.elements k.now) p) r.items) }
-    ensures value { IfOk result (λ r. plane_of (K.elements k.now) r.items ≡ (polynomials (polynomials (K.elements k.now).ring)).add ((polynomials (polynomials (K.elements k.now).ring)).mul (monomial (polynomials (K.elements k.now).ring) (poly_of (K.elements k.now) e.now) 0) (plane_of (K.elements k.now) a.now)) ((polynomials (polynomials (K.elements k.now).ring)).mul (monomial (polynomials (K.elements k.now).ring) (poly_of (K.elements k.now) q.now) at) (plane_of (K.elements k.now) b.now))) }
+    ensures value { IfOk result (λ r. plane_of (K.elements k.now) r.items ≡ (planes_over (K.elements k.now)).add ((planes_over (K.elements k.now)).mul (monomial (polys_over (K.elements k.now)) (poly_of (K.elements k.now) e.now) 0) (plane_of (K.elements k.now) a.now)) ((planes_over (K.elements k.now)).mul (monomial (polys_over (K.elements k.now)) (poly_of (K.elements k.now) q.now) at) (plane_of (K.elements k.now) b.now))) }
 {
     if is_one(k, e) {
         return plus_multiple(alloc, k, a, q, at, b);
@@ -231,7 +231,7 @@ pub fn plane_product<E: Coefficient, K: FiniteField<E = E>>(
     requires a { All (λ p. IsPoly (K.elements k.now) p) a.now }
     requires b { All (λ p. IsPoly (K.elements k.now) p) b.now }
     ensures plane { IfOk result (λ r. IsPlane (K.elements k.now) r) }
-    ensures value { IfOk result (λ r. plane_of (K.elements k.now) r ≡ (polynomials (polynomials (K.elements k.now).ring)).mul (plane_of (K.elements k.now) a.now) (plane_of (K.elements k.now) b.now)) }
+    ensures value { IfOk result (λ r. plane_of (K.elements k.now) r ≡ (planes_over (K.elements k.now)).mul (plane_of (K.elements k.now) a.now) (plane_of (K.elements k.now) b.now)) }
 {
     let a = Plane::from_rows(alloc, k, a)?;
     let b = Plane::from_rows(alloc, k, b)?;

@@ -2,9 +2,9 @@
 ghost use Rattle.std.specs.Prelude.{◌≡◌, ℕ, ◌≤◌, ◌<◌, ◌+◌, length, map, IfOk};
 ghost use Rattle.std.specs.List.{All};
 ghost use Rattle.ff_theory.specs.Lawful.{lawful_field};
-ghost use Rattle.ff_theory.specs.Poly.{coeff, polynomials};
+ghost use Rattle.ff_theory.specs.Poly.{coeff};
 ghost use Rattle.ff_theory.proofs.Element.{IsLowest};
-ghost use Rattle.ff_poly.specs.Words.{poly_of, IsPoly, plane_of, IsPlane};
+ghost use Rattle.ff_poly.specs.Words.{poly_of, IsPoly, plane_of, IsPlane, polys_over};
 ghost use Rattle.ff_elem.specs.Elem.{elem_of, over_in, IsElem};
 
 use crate::elem::{Elem, PolyList};
@@ -47,8 +47,8 @@ fn lowest_terms<E: Coefficient, K: FiniteField<E = E>>(
     requires num { All (λ p. IsPoly (K.elements k.now) p) num.items }
     ensures den { IfOk result (λ r. IsPoly (K.elements k.now) r.den) }
     ensures num { IfOk result (λ r. All (λ p. IsPoly (K.elements k.now) p) r.num) }
-    ensures lowest { IfOk result (λ r. IsLowest (lawful_field (K.elements k.now) (K.lawful k.now)) (length num.items) (poly_of (K.elements k.now) r.den) (map (λ p. poly_of (K.elements k.now) p) r.num)) }
-    ensures equal { IfOk result (λ r. (i : ℕ) → i < length num.items → (polynomials (K.elements k.now).ring).mul (coeff (polynomials (K.elements k.now).ring) (map (λ p. poly_of (K.elements k.now) p) r.num) i) (poly_of (K.elements k.now) den) ≡ (polynomials (K.elements k.now).ring).mul (coeff (polynomials (K.elements k.now).ring) (map (λ p. poly_of (K.elements k.now) p) num.items) i) (poly_of (K.elements k.now) r.den)) }
+    ensures lowest { IfOk result (λ r. IsLowest (lawful_field (K.lawful k.now)) (length num.items) (poly_of (K.elements k.now) r.den) (map (λ p. poly_of (K.elements k.now) p) r.num)) }
+    ensures equal { IfOk result (λ r. (i : ℕ) → i < length num.items → (polys_over (K.elements k.now)).mul (coeff (polys_over (K.elements k.now)) (map (λ p. poly_of (K.elements k.now) p) r.num) i) (poly_of (K.elements k.now) den) ≡ (polys_over (K.elements k.now)).mul (coeff (polys_over (K.elements k.now)) (map (λ p. poly_of (K.elements k.now) p) num.items) i) (poly_of (K.elements k.now) r.den)) }
 {
     if is_one(k, &den) {
         return Ok(Elem {
@@ -76,8 +76,8 @@ pub fn fraction<E: Coefficient, K: FiniteField<E = E>>(
     requires nonzero { 0 < length den }
     requires rows { All (λ p. IsPoly (K.elements k.now) p) rows.items }
     requires small { length rows.items < length f.now }
-    ensures element { IfOk result (λ r. IsElem (K.elements k.now) (K.lawful k.now) f.now r) }
-    ensures value { IfOk result (λ r. elem_of (K.elements k.now) (K.lawful k.now) f.now r ≡ over_in (K.elements k.now) (K.lawful k.now) f.now rows.items den) }
+    ensures element { IfOk result (λ r. IsElem (K.lawful k.now) f.now r) }
+    ensures value { IfOk result (λ r. elem_of (K.lawful k.now) f.now r ≡ over_in (K.lawful k.now) f.now rows.items den) }
 {
     let num = padded(alloc, k, rows, f.rows().len() - 1)?;
     let element = lowest_terms(alloc, k, den, num)?;
@@ -97,8 +97,8 @@ pub fn quotient<E: Coefficient, K: FiniteField<E = E>>(
     requires rows { All (λ p. IsPoly (K.elements k.now) p) rows.now }
     requires den { IsPoly (K.elements k.now) den.now }
     requires nonzero { 0 < length den.now }
-    ensures element { IfOk result (λ r. IsElem (K.elements k.now) (K.lawful k.now) f.now r) }
-    ensures value { IfOk result (λ r. elem_of (K.elements k.now) (K.lawful k.now) f.now r ≡ over_in (K.elements k.now) (K.lawful k.now) f.now rows.now den.now) }
+    ensures element { IfOk result (λ r. IsElem (K.lawful k.now) f.now r) }
+    ensures value { IfOk result (λ r. elem_of (K.lawful k.now) f.now r ≡ over_in (K.lawful k.now) f.now rows.now den.now) }
 {
     let (c, rest) = reduce(alloc, k, f.rows(), rows)?;
     let whole = c.checked_mul(alloc, k, den)?;

@@ -46,7 +46,7 @@ fn algebra(alloc: Global, k: Prime, a: &[u64], c: &[u64]) -> Result<Alg<Prime>, 
 
 /// Whether an element has a key.
 fn has_key(alloc: Global, a: &Alg<Prime>, e: &Elem<u32>, want: &[u64]) -> Result<bool, Fail>
-    requires { IsElem (⟦<Prime as Ring>⟧.elements a.now.k) (⟦<Prime as Ring>⟧.lawful a.now.k) a.now.f e.now }
+    requires { IsElem (⟦<Prime as Ring>⟧.lawful a.now.k) a.now.f e.now }
 {
     let key = a.key(alloc, e)?;
     Ok(key.as_slice() == want)
@@ -60,8 +60,8 @@ fn product_has_key(
     t: &Elem<u32>,
     want: &[u64],
 ) -> Result<bool, Fail>
-    requires s { IsElem (⟦<Prime as Ring>⟧.elements a.now.k) (⟦<Prime as Ring>⟧.lawful a.now.k) a.now.f s.now }
-    requires t { IsElem (⟦<Prime as Ring>⟧.elements a.now.k) (⟦<Prime as Ring>⟧.lawful a.now.k) a.now.f t.now }
+    requires s { IsElem (⟦<Prime as Ring>⟧.lawful a.now.k) a.now.f s.now }
+    requires t { IsElem (⟦<Prime as Ring>⟧.lawful a.now.k) a.now.f t.now }
 {
     has_key(alloc, a, &a.mul(alloc, s, t)?, want)
 }
@@ -74,15 +74,15 @@ fn sum_has_key(
     t: &Elem<u32>,
     want: &[u64],
 ) -> Result<bool, Fail>
-    requires s { IsElem (⟦<Prime as Ring>⟧.elements a.now.k) (⟦<Prime as Ring>⟧.lawful a.now.k) a.now.f s.now }
-    requires t { IsElem (⟦<Prime as Ring>⟧.elements a.now.k) (⟦<Prime as Ring>⟧.lawful a.now.k) a.now.f t.now }
+    requires s { IsElem (⟦<Prime as Ring>⟧.lawful a.now.k) a.now.f s.now }
+    requires t { IsElem (⟦<Prime as Ring>⟧.lawful a.now.k) a.now.f t.now }
 {
     has_key(alloc, a, &a.add(alloc, s, t)?, want)
 }
 
 /// Whether the inverse has a key.
 fn inverse_has_key(alloc: Global, a: &Alg<Prime>, s: &Elem<u32>, want: &[u64]) -> Result<bool, Fail>
-    requires { IsElem (⟦<Prime as Ring>⟧.elements a.now.k) (⟦<Prime as Ring>⟧.lawful a.now.k) a.now.f s.now }
+    requires { IsElem (⟦<Prime as Ring>⟧.lawful a.now.k) a.now.f s.now }
 {
     match a.inverse(alloc, s) {
         Ok(r) => has_key(alloc, a, &r, want),
@@ -101,7 +101,7 @@ fn fraction(
     rows: [&[u64]; 3],
     den: &[u64],
 ) -> Result<Elem<u32>, Fail>
-    ensures { IfOk result (λ e. IsElem (⟦<Prime as Ring>⟧.elements a.now.k) (⟦<Prime as Ring>⟧.lawful a.now.k) a.now.f e) }
+    ensures { IfOk result (λ e. IsElem (⟦<Prime as Ring>⟧.lawful a.now.k) a.now.f e) }
 {
     let rows = [
         poly(alloc, &a.k, rows[0])?,

@@ -66,7 +66,7 @@ module _ (F : Field) where
 
 module _ {E : Type 0} (K : Elements E) (L : Lawful K) where
   abbrev F : Field
-  F = lawful_field K L
+  F = lawful_field L
 
   -- the polynomial 1
   pub one_poly : (p q : List E) (x : E) → q ≡ p → length q ≡ 1 → x ≡ get_or q 0 x → K.value x ≡ K.one → poly_of K p ≡ (polynomials K.ring).one
@@ -161,7 +161,7 @@ module _ {E : Type 0} (K : Elements E) (L : Lawful K) where
         w = gcd.greatest ((polynomials K.ring).mul d (poly_of K common)) (times (poly_of K low) (poly_of K den) whole hd)
             (λ i l. times (coeff (polynomials K.ring) (polys_of K lows) i) (coeff (polynomials K.ring) (polys_of K nums) i) (part i) (hn i l))
 
-    pub lowest-form : IsLowest (lawful_field K L) (length nums) (poly_of K low) (polys_of K lows)
+    pub lowest-form : IsLowest (lawful_field L) (length nums) (poly_of K low) (polys_of K lows)
     lowest-form = record {
       monic = ap (λ t. K.same t K.one) (ap (λ k. coeff K.ring (poly_of K low).coeffs (pred k)) low_size.1 ∙ lead_one) ∙ L.tests.same_refl K.one;
       count = eq-eqb (length (polys_of K lows)) (length nums) (length-map lows (λ p. poly_of K p) ∙ sym (length-map lows (λ q. (polynomials K.ring).mul (poly_of K q) (poly_of K common))) ∙ ap length parts ∙ length-map nums (λ p. poly_of K p));

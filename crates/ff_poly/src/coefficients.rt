@@ -2,8 +2,8 @@
 ghost use Rattle.std.specs.Prelude.{◌≡◌, ◌+◌, ◌≤◌, length, map, take, IsTrue};
 ghost use Rattle.std.specs.List.{All};
 ghost use Rattle.ff_theory.specs.Ring.{IsElement};
-ghost use Rattle.ff_theory.specs.Poly.{ends_in_nonzero, polynomials};
-ghost use Rattle.ff_poly.specs.Words.{poly_of};
+ghost use Rattle.ff_theory.specs.Poly.{ends_in_nonzero};
+ghost use Rattle.ff_poly.specs.Words.{poly_of, polys_over};
 ghost use Rattle.ff_poly.specs.Monomial.{monomial};
 
 use ff_alg::{FiniteField, is_zero};
@@ -15,7 +15,7 @@ pub fn add_to<E: Copy + Eq, K: FiniteField<E = E>>(k: &K, sum: &mut [E], b: &[E]
     requires room { length b.now ≤ length sum.old }
     ensures len { length sum.new ≡ length sum.old }
     ensures each { All (IsElement (K.elements k.now)) sum.new }
-    ensures value { poly_of (K.elements k.now) sum.new ≡ (polynomials (K.elements k.now).ring).add (poly_of (K.elements k.now) sum.old) (poly_of (K.elements k.now) b.now) }
+    ensures value { poly_of (K.elements k.now) sum.new ≡ (polys_over (K.elements k.now)).add (poly_of (K.elements k.now) sum.old) (poly_of (K.elements k.now) b.now) }
 {
     for i in 0..b.len() {
         sum[i] = k.add(sum[i], b[i]);
@@ -36,7 +36,7 @@ pub fn add_scaled<E: Copy + Eq, K: FiniteField<E = E>>(
     requires room { at + length b.now ≤ length sum.old }
     ensures len { length sum.new ≡ length sum.old }
     ensures each { All (IsElement (K.elements k.now)) sum.new }
-    ensures value { poly_of (K.elements k.now) sum.new ≡ (polynomials (K.elements k.now).ring).add (poly_of (K.elements k.now) sum.old) ((polynomials (K.elements k.now).ring).mul (monomial (K.elements k.now).ring ((K.elements k.now).value c) at) (poly_of (K.elements k.now) b.now)) }
+    ensures value { poly_of (K.elements k.now) sum.new ≡ (polys_over (K.elements k.now)).add (poly_of (K.elements k.now) sum.old) ((polys_over (K.elements k.now)).mul (monomial (K.elements k.now).ring ((K.elements k.now).value c) at) (poly_of (K.elements k.now) b.now)) }
 {
     if is_zero(k, c) {
         return;
@@ -51,7 +51,7 @@ pub fn negate<E: Copy + Eq, K: FiniteField<E = E>>(k: &K, list: &mut [E])
     requires { All (IsElement (K.elements k.now)) list.old }
     ensures len { length list.new ≡ length list.old }
     ensures each { All (IsElement (K.elements k.now)) list.new }
-    ensures value { poly_of (K.elements k.now) list.new ≡ (polynomials (K.elements k.now).ring).neg (poly_of (K.elements k.now) list.old) }
+    ensures value { poly_of (K.elements k.now) list.new ≡ (polys_over (K.elements k.now)).neg (poly_of (K.elements k.now) list.old) }
 {
     for i in 0..list.len() {
         list[i] = k.neg(list[i]);
@@ -66,7 +66,7 @@ fn add_rows<E: Copy + Eq, K: FiniteField<E = E>>(k: &K, sum: &mut [E], a: &[E], 
     requires room { length a.now + length b.now ≤ length sum.old + 1 }
     ensures len { length sum.new ≡ length sum.old }
     ensures each { All (IsElement (K.elements k.now)) sum.new }
-    ensures value { poly_of (K.elements k.now) sum.new ≡ (polynomials (K.elements k.now).ring).add (poly_of (K.elements k.now) sum.old) ((polynomials (K.elements k.now).ring).mul (poly_of (K.elements k.now) a.now) (poly_of (K.elements k.now) b.now)) }
+    ensures value { poly_of (K.elements k.now) sum.new ≡ (polys_over (K.elements k.now)).add (poly_of (K.elements k.now) sum.old) ((polys_over (K.elements k.now)).mul (poly_of (K.elements k.now) a.now) (poly_of (K.elements k.now) b.now)) }
 {
     for i in 0..a.len() {
         add_scaled(k, sum, i, a[i], b);
@@ -81,7 +81,7 @@ pub fn add_product<E: Copy + Eq, K: FiniteField<E = E>>(k: &K, sum: &mut [E], a:
     requires room { length a.now + length b.now ≤ length sum.old + 1 }
     ensures len { length sum.new ≡ length sum.old }
     ensures each { All (IsElement (K.elements k.now)) sum.new }
-    ensures value { poly_of (K.elements k.now) sum.new ≡ (polynomials (K.elements k.now).ring).add (poly_of (K.elements k.now) sum.old) ((polynomials (K.elements k.now).ring).mul (poly_of (K.elements k.now) a.now) (poly_of (K.elements k.now) b.now)) }
+    ensures value { poly_of (K.elements k.now) sum.new ≡ (polys_over (K.elements k.now)).add (poly_of (K.elements k.now) sum.old) ((polys_over (K.elements k.now)).mul (poly_of (K.elements k.now) a.now) (poly_of (K.elements k.now) b.now)) }
 {
     if a.len() <= b.len() {
         add_rows(k, sum, a, b);

@@ -2,9 +2,8 @@
 ghost use Rattle.std.specs.Prelude.{◌≡◌, ◌<◌, ◌≤◌, length, take, drop, IfOk};
 ghost use Rattle.std.specs.List.{All};
 ghost use Rattle.ff_theory.specs.Ring.{IsElement};
-ghost use Rattle.ff_theory.specs.Poly.{polynomials};
 ghost use Rattle.ff_theory.specs.Division.{IsDivision};
-ghost use Rattle.ff_poly.specs.Words.{poly_of, IsPoly};
+ghost use Rattle.ff_poly.specs.Words.{poly_of, IsPoly, polys_over};
 
 use crate::Poly;
 use crate::coefficients::add_scaled;
@@ -45,7 +44,7 @@ pub fn divide_row<E: Copy + Eq, K: FiniteField<E = E>>(k: &K, row: &mut [E], b: 
     ensures smaller { result < length b.now }
     ensures len { length row.new ≡ length row.old }
     ensures each { All (IsElement (K.elements k.now)) row.new }
-    ensures value { poly_of (K.elements k.now) row.old ≡ (polynomials (K.elements k.now).ring).add ((polynomials (K.elements k.now).ring).mul (poly_of (K.elements k.now) (drop result row.new)) (poly_of (K.elements k.now) b.now)) (poly_of (K.elements k.now) (take result row.new)) }
+    ensures value { poly_of (K.elements k.now) row.old ≡ (polys_over (K.elements k.now)).add ((polys_over (K.elements k.now)).mul (poly_of (K.elements k.now) (drop result row.new)) (poly_of (K.elements k.now) b.now)) (poly_of (K.elements k.now) (take result row.new)) }
 {
     let degree = b.len() - 1;
     if row.len() <= degree {

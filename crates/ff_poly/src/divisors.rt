@@ -2,9 +2,8 @@
 ghost use Rattle.std.specs.Prelude.{◌≡◌, ◌<◌, ◌≤◌, length, IfOk};
 ghost use Rattle.std.specs.List.{All};
 ghost use Rattle.ff_theory.specs.Ring.{IsElement};
-ghost use Rattle.ff_theory.specs.Poly.{polynomials};
 ghost use Rattle.ff_theory.specs.Division.{IsDivision};
-ghost use Rattle.ff_poly.specs.Words.{poly_of, IsPoly};
+ghost use Rattle.ff_poly.specs.Words.{poly_of, IsPoly, polys_over};
 ghost use Rattle.ff_poly.specs.Monomial.{monomial};
 ghost use Rattle.ff_poly.specs.Divisors.{leading, IsGcd};
 
@@ -21,7 +20,7 @@ impl<E: Coefficient> Poly<E> {
         requires nonzero { 0 < length b.now }
         ensures poly { IsPoly (K.elements k.now) result }
         ensures smaller { length result < length b.now }
-        ensures division { (q : (polynomials (K.elements k.now).ring).carrier) × IsDivision (K.elements k.now).ring (poly_of (K.elements k.now) self) (poly_of (K.elements k.now) b.now) q (poly_of (K.elements k.now) result) }
+        ensures division { (q : (polys_over (K.elements k.now)).carrier) × IsDivision (K.elements k.now).ring (poly_of (K.elements k.now) self) (poly_of (K.elements k.now) b.now) q (poly_of (K.elements k.now) result) }
     {
         let mut row = self.items;
         let cut = divide_row(k, row.as_mut_slice(), b.coeffs());
@@ -40,7 +39,7 @@ impl<E: Coefficient> Poly<E> {
         requires b { IsPoly (K.elements k.now) b.now }
         requires nonzero { 0 < length b.now }
         ensures poly { IfOk result (λ r. IsPoly (K.elements k.now) r) }
-        ensures division { IfOk result (λ r. (q : (polynomials (K.elements k.now).ring).carrier) × IsDivision (K.elements k.now).ring (poly_of (K.elements k.now) self.now) (poly_of (K.elements k.now) b.now) q (poly_of (K.elements k.now) r)) }
+        ensures division { IfOk result (λ r. (q : (polys_over (K.elements k.now)).carrier) × IsDivision (K.elements k.now).ring (poly_of (K.elements k.now) self.now) (poly_of (K.elements k.now) b.now) q (poly_of (K.elements k.now) r)) }
     {
         Ok(self.copy(alloc)?.reduced(k, b))
     }
@@ -50,7 +49,7 @@ impl<E: Coefficient> Poly<E> {
         requires a { All (IsElement (K.elements k.now)) self }
         requires c { IsElement (K.elements k.now) c }
         ensures poly { IsPoly (K.elements k.now) result }
-        ensures value { poly_of (K.elements k.now) result ≡ (polynomials (K.elements k.now).ring).mul (monomial (K.elements k.now).ring ((K.elements k.now).value c) 0) (poly_of (K.elements k.now) self) }
+        ensures value { poly_of (K.elements k.now) result ≡ (polys_over (K.elements k.now)).mul (monomial (K.elements k.now).ring ((K.elements k.now).value c) 0) (poly_of (K.elements k.now) self) }
     {
         let mut row = self.items;
         scale(k, row.as_mut_slice(), c);
@@ -62,7 +61,7 @@ impl<E: Coefficient> Poly<E> {
         requires a { IsPoly (K.elements k.now) self }
         requires c { IsElement (K.elements k.now) c }
         ensures poly { IsPoly (K.elements k.now) result }
-        ensures value { poly_of (K.elements k.now) result ≡ (polynomials (K.elements k.now).ring).mul (monomial (K.elements k.now).ring ((K.elements k.now).mul ((K.elements k.now).value c) ((K.elements k.now).inverse (leading (K.elements k.now) self))) 0) (poly_of (K.elements k.now) self) }
+        ensures value { poly_of (K.elements k.now) result ≡ (polys_over (K.elements k.now)).mul (monomial (K.elements k.now).ring ((K.elements k.now).mul ((K.elements k.now).value c) ((K.elements k.now).inverse (leading (K.elements k.now) self))) 0) (poly_of (K.elements k.now) self) }
     {
         let n = self.coeffs().len();
         if n == 0 {
@@ -76,7 +75,7 @@ impl<E: Coefficient> Poly<E> {
     pub fn monic<K: FiniteField<E = E>>(&self, alloc: Global, k: &K) -> Result<Poly<E>, NoMemory>
         requires { IsPoly (K.elements k.now) self.now }
         ensures poly { IfOk result (λ r. IsPoly (K.elements k.now) r) }
-        ensures value { IfOk result (λ r. poly_of (K.elements k.now) r ≡ (polynomials (K.elements k.now).ring).mul (monomial (K.elements k.now).ring ((K.elements k.now).inverse (leading (K.elements k.now) self.now)) 0) (poly_of (K.elements k.now) self.now)) }
+        ensures value { IfOk result (λ r. poly_of (K.elements k.now) r ≡ (polys_over (K.elements k.now)).mul (monomial (K.elements k.now).ring ((K.elements k.now).inverse (leading (K.elements k.now) self.now)) 0) (poly_of (K.elements k.now) self.now)) }
     {
         Ok(self.copy(alloc)?.led_by(k, k.one()))
     }
@@ -92,7 +91,7 @@ impl<E: Coefficient> Poly<E> {
         requires a { IsPoly (K.elements k.now) self.now }
         requires b { IsPoly (K.elements k.now) b.now }
         ensures poly { IfOk result (λ r. IsPoly (K.elements k.now) r) }
-        ensures gcd { IfOk result (λ r. IsGcd (polynomials (K.elements k.now).ring) (poly_of (K.elements k.now) self.now) (poly_of (K.elements k.now) b.now) (poly_of (K.elements k.now) r)) }
+        ensures gcd { IfOk result (λ r. IsGcd (polys_over (K.elements k.now)) (poly_of (K.elements k.now) self.now) (poly_of (K.elements k.now) b.now) (poly_of (K.elements k.now) r)) }
         ensures monic { IfOk result (λ r. 0 < length r → leading (K.elements k.now) r ≡ (K.elements k.now).one) }
     {
         let divisor = common_divisor(k, self.copy(alloc)?, b.copy(alloc)?);
@@ -106,7 +105,7 @@ fn scale<E: Copy + Eq, K: FiniteField<E = E>>(k: &K, list: &mut [E], c: E)
     requires c { IsElement (K.elements k.now) c }
     ensures len { length list.new ≡ length list.old }
     ensures each { All (IsElement (K.elements k.now)) list.new }
-    ensures value { poly_of (K.elements k.now) list.new ≡ (polynomials (K.elements k.now).ring).mul (monomial (K.elements k.now).ring ((K.elements k.now).value c) 0) (poly_of (K.elements k.now) list.old) }
+    ensures value { poly_of (K.elements k.now) list.new ≡ (polys_over (K.elements k.now)).mul (monomial (K.elements k.now).ring ((K.elements k.now).value c) 0) (poly_of (K.elements k.now) list.old) }
 {
     for i in 0..list.len() {
         list[i] = k.mul(c, list[i]);
@@ -122,7 +121,7 @@ pub fn common_divisor<E: Coefficient, K: FiniteField<E = E>>(
     requires a { IsPoly (K.elements k.now) a }
     requires b { IsPoly (K.elements k.now) b }
     ensures poly { IsPoly (K.elements k.now) result }
-    ensures gcd { IsGcd (polynomials (K.elements k.now).ring) (poly_of (K.elements k.now) a) (poly_of (K.elements k.now) b) (poly_of (K.elements k.now) result) }
+    ensures gcd { IsGcd (polys_over (K.elements k.now)) (poly_of (K.elements k.now) a) (poly_of (K.elements k.now) b) (poly_of (K.elements k.now) result) }
 {
     let (mut divisor, mut rest) = (a, b);
     while !rest.is_zero() {

@@ -2,9 +2,9 @@
 ghost use Rattle.std.specs.Prelude.{◌≡◌, ℕ, ◌<◌, length, IfOk};
 ghost use Rattle.std.specs.List.{All};
 ghost use Rattle.ff_theory.specs.Lawful.{lawful_field};
-ghost use Rattle.ff_theory.specs.Poly.{coeff, polynomials};
+ghost use Rattle.ff_theory.specs.Poly.{coeff};
 ghost use Rattle.ff_theory.proofs.Element.{IsLowest};
-ghost use Rattle.ff_poly.specs.Words.{poly_of, IsPoly};
+ghost use Rattle.ff_poly.specs.Words.{poly_of, IsPoly, polys_over};
 ghost use Rattle.ff_poly.specs.Divisors.{leading, Divides, polys_of, products_with, IsGcdOfAll};
 
 use crate::Poly;
@@ -27,8 +27,8 @@ impl<E: Coefficient> Poly<E> {
         requires nums { All (λ p. IsPoly (K.elements k.now) p) nums.now }
         ensures den { IfOk result (λ r. IsPoly (K.elements k.now) r.0) }
         ensures nums { IfOk result (λ r. All (λ p. IsPoly (K.elements k.now) p) r.1.items) }
-        ensures lowest { IfOk result (λ r. IsLowest (lawful_field (K.elements k.now) (K.lawful k.now)) (length nums.now) (poly_of (K.elements k.now) r.0) (polys_of (K.elements k.now) r.1.items)) }
-        ensures equal { IfOk result (λ r. (i : ℕ) → i < length nums.now → (polynomials (K.elements k.now).ring).mul (coeff (polynomials (K.elements k.now).ring) (polys_of (K.elements k.now) r.1.items) i) (poly_of (K.elements k.now) den.now) ≡ (polynomials (K.elements k.now).ring).mul (coeff (polynomials (K.elements k.now).ring) (polys_of (K.elements k.now) nums.now) i) (poly_of (K.elements k.now) r.0)) }
+        ensures lowest { IfOk result (λ r. IsLowest (lawful_field (K.lawful k.now)) (length nums.now) (poly_of (K.elements k.now) r.0) (polys_of (K.elements k.now) r.1.items)) }
+        ensures equal { IfOk result (λ r. (i : ℕ) → i < length nums.now → (polys_over (K.elements k.now)).mul (coeff (polys_over (K.elements k.now)) (polys_of (K.elements k.now) r.1.items) i) (poly_of (K.elements k.now) den.now) ≡ (polys_over (K.elements k.now)).mul (coeff (polys_over (K.elements k.now)) (polys_of (K.elements k.now) nums.now) i) (poly_of (K.elements k.now) r.0)) }
     {
         let common = shared_divisor(alloc, k, den, nums)?;
         let low = den.quotient(alloc, k, &common)?;
@@ -46,9 +46,9 @@ impl<E: Coefficient> Poly<E> {
         requires a { IsPoly (K.elements k.now) self.now }
         requires b { IsPoly (K.elements k.now) b.now }
         requires nonzero { 0 < length b.now }
-        requires divisor { Divides (polynomials (K.elements k.now).ring) (poly_of (K.elements k.now) b.now) (poly_of (K.elements k.now) self.now) }
+        requires divisor { Divides (polys_over (K.elements k.now)) (poly_of (K.elements k.now) b.now) (poly_of (K.elements k.now) self.now) }
         ensures poly { IfOk result (λ r. IsPoly (K.elements k.now) r) }
-        ensures value { IfOk result (λ r. (polynomials (K.elements k.now).ring).mul (poly_of (K.elements k.now) r) (poly_of (K.elements k.now) b.now) ≡ poly_of (K.elements k.now) self.now) }
+        ensures value { IfOk result (λ r. (polys_over (K.elements k.now)).mul (poly_of (K.elements k.now) r) (poly_of (K.elements k.now) b.now) ≡ poly_of (K.elements k.now) self.now) }
     {
         let divisor = b.coeffs();
         if divisor.len() == 1 && same(k, divisor[0], k.one()) {
@@ -69,7 +69,7 @@ fn quotients<E: Coefficient, K: FiniteField<E = E>>(
     requires list { All (λ p. IsPoly (K.elements k.now) p) list.now }
     requires b { IsPoly (K.elements k.now) b.now }
     requires nonzero { 0 < length b.now }
-    requires divisor { (i : ℕ) → i < length list.now → Divides (polynomials (K.elements k.now).ring) (poly_of (K.elements k.now) b.now) (coeff (polynomials (K.elements k.now).ring) (polys_of (K.elements k.now) list.now) i) }
+    requires divisor { (i : ℕ) → i < length list.now → Divides (polys_over (K.elements k.now)) (poly_of (K.elements k.now) b.now) (coeff (polys_over (K.elements k.now)) (polys_of (K.elements k.now) list.now) i) }
     ensures each { IfOk result (λ r. All (λ p. IsPoly (K.elements k.now) p) r.items) }
     ensures value { IfOk result (λ r. products_with (K.elements k.now) (poly_of (K.elements k.now) b.now) r.items ≡ polys_of (K.elements k.now) list.now) }
 {
@@ -90,7 +90,7 @@ fn divisor_of_all<E: Coefficient, K: FiniteField<E = E>>(
     requires den { IsPoly (K.elements k.now) den.now }
     requires nums { All (λ p. IsPoly (K.elements k.now) p) nums.now }
     ensures poly { IfOk result (λ r. IsPoly (K.elements k.now) r) }
-    ensures gcd { IfOk result (λ r. IsGcdOfAll (polynomials (K.elements k.now).ring) (poly_of (K.elements k.now) den.now) (polys_of (K.elements k.now) nums.now) (length nums.now) (poly_of (K.elements k.now) r)) }
+    ensures gcd { IfOk result (λ r. IsGcdOfAll (polys_over (K.elements k.now)) (poly_of (K.elements k.now) den.now) (polys_of (K.elements k.now) nums.now) (length nums.now) (poly_of (K.elements k.now) r)) }
 {
     let mut divisor = den.copy(alloc)?;
     for num in nums {
@@ -115,7 +115,7 @@ fn shared_divisor<E: Coefficient, K: FiniteField<E = E>>(
     ensures poly { IfOk result (λ r. IsPoly (K.elements k.now) r) }
     ensures nonzero { IfOk result (λ r. 0 < length r) }
     ensures leading { IfOk result (λ r. leading (K.elements k.now) r ≡ leading (K.elements k.now) den.now) }
-    ensures gcd { IfOk result (λ r. IsGcdOfAll (polynomials (K.elements k.now).ring) (poly_of (K.elements k.now) den.now) (polys_of (K.elements k.now) nums.now) (length nums.now) (poly_of (K.elements k.now) r)) }
+    ensures gcd { IfOk result (λ r. IsGcdOfAll (polys_over (K.elements k.now)) (poly_of (K.elements k.now) den.now) (polys_of (K.elements k.now) nums.now) (length nums.now) (poly_of (K.elements k.now) r)) }
 {
     let lead = den.coeffs()[den.coeffs().len() - 1];
     Ok(divisor_of_all(alloc, k, den, nums)?.led_by(k, lead))

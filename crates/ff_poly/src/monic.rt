@@ -2,8 +2,7 @@
 ghost use Rattle.std.specs.Prelude.{◌≡◌, ℕ, ◌<◌, ◌≤◌, ◌+◌, ◌-◌, ◌*◌, ◌^◌, [], cond, length, nat_eq, get_or, IfOk, ◌↔◌};
 ghost use Rattle.std.specs.List.{All};
 ghost use Rattle.ff_theory.specs.Ring.{power};
-ghost use Rattle.ff_theory.specs.Poly.{polynomials};
-ghost use Rattle.ff_poly.specs.Words.{poly_of, IsPoly, plane_of, IsPlane, x_size};
+ghost use Rattle.ff_poly.specs.Words.{poly_of, IsPoly, plane_of, IsPlane, x_size, polys_over};
 ghost use Rattle.ff_poly.specs.Monic.{monic_form, rows_of};
 
 use crate::{Plane, Poly};
@@ -45,8 +44,8 @@ impl<E: Coefficient> Plane<E> {
         requires height { length self.now ≤ 2 ^ 31 }
         requires width { x_size self.now ≤ 2 ^ 31 }
         ensures plane { IfOk result (λ r. IsPlane (K.elements k.now) r) }
-        ensures value { IfOk result (λ r. plane_of (K.elements k.now) r ≡ monic_form (polynomials (K.elements k.now).ring) (plane_of (K.elements k.now) self.now)) }
-        ensures wide { (d : ℕ) → (result ≡ Err (FormFault.Wide d)) ↔ ((MAX_MONIC_DEGREE < d) × (d + 1 ≡ x_size (rows_of (K.elements k.now).ring (monic_form (polynomials (K.elements k.now).ring) (plane_of (K.elements k.now) self.now))))) }
+        ensures value { IfOk result (λ r. plane_of (K.elements k.now) r ≡ monic_form (polys_over (K.elements k.now)) (plane_of (K.elements k.now) self.now)) }
+        ensures wide { (d : ℕ) → (result ≡ Err (FormFault.Wide d)) ↔ ((MAX_MONIC_DEGREE < d) × (d + 1 ≡ x_size (rows_of (K.elements k.now).ring (monic_form (polys_over (K.elements k.now)) (plane_of (K.elements k.now) self.now))))) }
     {
         let deg = monic_degree(k, self.rows());
         if deg > MAX_MONIC_DEGREE {
@@ -63,7 +62,7 @@ fn monic_degree<E: Coefficient, K: FiniteField<E = E>>(k: &K, rows: &[Poly<E>]) 
     requires has_y { 1 < length rows.now }
     requires height { length rows.now ≤ 2 ^ 31 }
     requires width { x_size rows.now ≤ 2 ^ 31 }
-    ensures degree { result + 1 ≡ x_size (rows_of (K.elements k.now).ring (monic_form (polynomials (K.elements k.now).ring) (plane_of (K.elements k.now) rows.now))) }
+    ensures degree { result + 1 ≡ x_size (rows_of (K.elements k.now).ring (monic_form (polys_over (K.elements k.now)) (plane_of (K.elements k.now) rows.now))) }
     ensures bound { (i : ℕ) → i + 1 < length rows.now → 0 < length (get_or rows.now i []) → length (get_or rows.now i []) + (length rows.now - 2 - i) * (length (get_or rows.now (length rows.now - 1) []) - 1) ≤ result + 1 }
 {
     let _field = k;
@@ -101,7 +100,7 @@ fn monic_rows<E: Coefficient, K: FiniteField<E = E>>(
     requires height { length rows.now ≤ 2 ^ 31 }
     requires narrow { (i : ℕ) → i + 1 < length rows.now → 0 < length (get_or rows.now i []) → length (get_or rows.now i []) + (length rows.now - 2 - i) * (length (get_or rows.now (length rows.now - 1) []) - 1) ≤ MAX_MONIC_DEGREE + 1 }
     ensures each { IfOk result (λ r. All (λ p. IsPoly (K.elements k.now) p) r.items) }
-    ensures value { IfOk result (λ r. plane_of (K.elements k.now) r.items ≡ monic_form (polynomials (K.elements k.now).ring) (plane_of (K.elements k.now) rows.now)) }
+    ensures value { IfOk result (λ r. plane_of (K.elements k.now) r.items ≡ monic_form (polys_over (K.elements k.now)) (plane_of (K.elements k.now) rows.now)) }
 {
     let n = rows.len() - 1;
     let mut form = Vec::with_capacity(alloc, rows.len())?;
@@ -125,7 +124,7 @@ fn monic_row<E: Coefficient, K: FiniteField<E = E>>(
     requires nonzero { 0 < length lead.now }
     requires narrow { 0 < length row.now → length row.now + exponent * (length lead.now - 1) ≤ MAX_MONIC_DEGREE + 1 }
     ensures poly { IfOk result (λ r. IsPoly (K.elements k.now) r) }
-    ensures value { IfOk result (λ r. poly_of (K.elements k.now) r ≡ (polynomials (K.elements k.now).ring).mul (poly_of (K.elements k.now) row.now) (power (polynomials (K.elements k.now).ring) (poly_of (K.elements k.now) lead.now) exponent)) }
+    ensures value { IfOk result (λ r. poly_of (K.elements k.now) r ≡ (polys_over (K.elements k.now)).mul (poly_of (K.elements k.now) row.now) (power (polys_over (K.elements k.now)) (poly_of (K.elements k.now) lead.now) exponent)) }
 {
     if row.is_zero() {
         return Ok(Poly::zero(alloc));

@@ -2,8 +2,8 @@
 ghost use Rattle.std.specs.Prelude.{◌≡◌, ◌<◌, ◌≤◌, ◌+◌, ◌^◌, [], length, map, nat_eq, IsTrue, IfOk, IsSome, IfSome, ◌↔◌};
 ghost use Rattle.std.specs.List.{All};
 ghost use Rattle.ff_theory.specs.Ring.{IsElement, power};
-ghost use Rattle.ff_theory.specs.Poly.{coeff, polynomials};
-ghost use Rattle.ff_poly.specs.Words.{poly_of, IsPoly};
+ghost use Rattle.ff_theory.specs.Poly.{coeff};
+ghost use Rattle.ff_poly.specs.Words.{poly_of, IsPoly, polys_over};
 ghost use Rattle.ff_poly.specs.Monomial.{variable};
 
 use crate::coefficients::{add_product, add_to, negate, trimmed_len};
@@ -40,7 +40,7 @@ impl<E: Coefficient> Poly<E> {
     pub fn one<K: FiniteField<E = E>>(alloc: Global, k: &K) -> Result<Poly<E>, NoMemory>
         ensures len { IfOk result (λ r. length r ≡ 1) }
         ensures poly { IfOk result (λ r. IsPoly (K.elements k.now) r) }
-        ensures value { IfOk result (λ r. poly_of (K.elements k.now) r ≡ (polynomials (K.elements k.now).ring).one) }
+        ensures value { IfOk result (λ r. poly_of (K.elements k.now) r ≡ (polys_over (K.elements k.now)).one) }
     {
         let mut items = SmallVec::new(alloc);
         items.push(k.one())?;
@@ -133,7 +133,7 @@ impl<E: Coefficient> Poly<E> {
         requires short { All (IsElement (K.elements k.now)) short.now }
         requires room { length short.now ≤ length long.now }
         ensures poly { IfOk result (λ r. IsPoly (K.elements k.now) r) }
-        ensures value { IfOk result (λ r. poly_of (K.elements k.now) r ≡ (polynomials (K.elements k.now).ring).add (poly_of (K.elements k.now) long.now) (poly_of (K.elements k.now) short.now)) }
+        ensures value { IfOk result (λ r. poly_of (K.elements k.now) r ≡ (polys_over (K.elements k.now)).add (poly_of (K.elements k.now) long.now) (poly_of (K.elements k.now) short.now)) }
     {
         let mut sum = SmallVec::from_slice(alloc, long)?;
         add_to(k, sum.as_mut_slice(), short);
@@ -150,7 +150,7 @@ impl<E: Coefficient> Poly<E> {
         requires a { All (IsElement (K.elements k.now)) a.now }
         requires b { All (IsElement (K.elements k.now)) b.now }
         ensures poly { IfOk result (λ r. IsPoly (K.elements k.now) r) }
-        ensures value { IfOk result (λ r. poly_of (K.elements k.now) r ≡ (polynomials (K.elements k.now).ring).add (poly_of (K.elements k.now) a.now) (poly_of (K.elements k.now) b.now)) }
+        ensures value { IfOk result (λ r. poly_of (K.elements k.now) r ≡ (polys_over (K.elements k.now)).add (poly_of (K.elements k.now) a.now) (poly_of (K.elements k.now) b.now)) }
     {
         if a.len() < b.len() {
             return Poly::sum_of(alloc, k, b, a);
@@ -168,7 +168,7 @@ impl<E: Coefficient> Poly<E> {
         requires a { All (IsElement (K.elements k.now)) self.now }
         requires b { All (IsElement (K.elements k.now)) b.now }
         ensures poly { IfOk result (λ r. IsPoly (K.elements k.now) r) }
-        ensures value { IfOk result (λ r. poly_of (K.elements k.now) r ≡ (polynomials (K.elements k.now).ring).add (poly_of (K.elements k.now) self.now) (poly_of (K.elements k.now) b.now)) }
+        ensures value { IfOk result (λ r. poly_of (K.elements k.now) r ≡ (polys_over (K.elements k.now)).add (poly_of (K.elements k.now) self.now) (poly_of (K.elements k.now) b.now)) }
     {
         Poly::sum(alloc, k, self.items.as_slice(), b.items.as_slice())
     }
@@ -177,7 +177,7 @@ impl<E: Coefficient> Poly<E> {
     pub fn neg<K: FiniteField<E = E>>(&self, alloc: Global, k: &K) -> Result<Poly<E>, NoMemory>
         requires { All (IsElement (K.elements k.now)) self.now }
         ensures poly { IfOk result (λ r. IsPoly (K.elements k.now) r) }
-        ensures value { IfOk result (λ r. poly_of (K.elements k.now) r ≡ (polynomials (K.elements k.now).ring).neg (poly_of (K.elements k.now) self.now)) }
+        ensures value { IfOk result (λ r. poly_of (K.elements k.now) r ≡ (polys_over (K.elements k.now)).neg (poly_of (K.elements k.now) self.now)) }
     {
         let mut negative = SmallVec::from_slice(alloc, self.items.as_slice())?;
         negate(k, negative.as_mut_slice());
@@ -192,7 +192,7 @@ impl<E: Coefficient> Poly<E> {
     ) -> Result<SmallVec<E, 8>, NoMemory>
         ensures len { IfOk result (λ r. length r.items ≡ n) }
         ensures each { IfOk result (λ r. All (IsElement (K.elements k.now)) r.items) }
-        ensures value { IfOk result (λ r. poly_of (K.elements k.now) r.items ≡ (polynomials (K.elements k.now).ring).zero) }
+        ensures value { IfOk result (λ r. poly_of (K.elements k.now) r.items ≡ (polys_over (K.elements k.now)).zero) }
     {
         let mut zeros = SmallVec::with_capacity(alloc, n)?;
         for _i in 0..n {
@@ -212,7 +212,7 @@ impl<E: Coefficient> Poly<E> {
         requires b { All (IsElement (K.elements k.now)) b.now }
         requires room { length a.now + length b.now ≤ 2 ^ 64 }
         ensures poly { IfOk result (λ r. IsPoly (K.elements k.now) r) }
-        ensures value { IfOk result (λ r. poly_of (K.elements k.now) r ≡ (polynomials (K.elements k.now).ring).mul (poly_of (K.elements k.now) a.now) (poly_of (K.elements k.now) b.now)) }
+        ensures value { IfOk result (λ r. poly_of (K.elements k.now) r ≡ (polys_over (K.elements k.now)).mul (poly_of (K.elements k.now) a.now) (poly_of (K.elements k.now) b.now)) }
     {
         if a.is_empty() {
             return Ok(Poly::zero(alloc));
@@ -236,7 +236,7 @@ impl<E: Coefficient> Poly<E> {
         requires b { All (IsElement (K.elements k.now)) b.now }
         requires room { length self.now + length b.now < 2 ^ 64 }
         ensures poly { IfOk result (λ r. IsPoly (K.elements k.now) r) }
-        ensures value { IfOk result (λ r. poly_of (K.elements k.now) r ≡ (polynomials (K.elements k.now).ring).mul (poly_of (K.elements k.now) self.now) (poly_of (K.elements k.now) b.now)) }
+        ensures value { IfOk result (λ r. poly_of (K.elements k.now) r ≡ (polys_over (K.elements k.now)).mul (poly_of (K.elements k.now) self.now) (poly_of (K.elements k.now) b.now)) }
     {
         Poly::product(alloc, k, self.items.as_slice(), b.items.as_slice())
     }
@@ -251,7 +251,7 @@ impl<E: Coefficient> Poly<E> {
         requires a { All (IsElement (K.elements k.now)) self.now }
         requires b { All (IsElement (K.elements k.now)) b.now }
         ensures poly { IfOk result (λ r. IsPoly (K.elements k.now) r) }
-        ensures value { IfOk result (λ r. poly_of (K.elements k.now) r ≡ (polynomials (K.elements k.now).ring).mul (poly_of (K.elements k.now) self.now) (poly_of (K.elements k.now) b.now)) }
+        ensures value { IfOk result (λ r. poly_of (K.elements k.now) r ≡ (polys_over (K.elements k.now)).mul (poly_of (K.elements k.now) self.now) (poly_of (K.elements k.now) b.now)) }
     {
         if self.items.len().checked_add(b.items.len()).is_none() {
             return Err(NoMemory);
@@ -269,7 +269,7 @@ impl<E: Coefficient> Poly<E> {
         requires a { All (IsElement (K.elements k.now)) self.now }
         requires room { length self.now + i < 2 ^ 64 }
         ensures poly { IfOk result (λ r. IsPoly (K.elements k.now) r) }
-        ensures value { IfOk result (λ r. poly_of (K.elements k.now) r ≡ (polynomials (K.elements k.now).ring).mul (power (polynomials (K.elements k.now).ring) (variable (K.elements k.now).ring) i) (poly_of (K.elements k.now) self.now)) }
+        ensures value { IfOk result (λ r. poly_of (K.elements k.now) r ≡ (polys_over (K.elements k.now)).mul (power (polys_over (K.elements k.now)) (variable (K.elements k.now).ring) i) (poly_of (K.elements k.now) self.now)) }
     {
         if self.items.is_empty() {
             return Ok(Poly::zero(alloc));

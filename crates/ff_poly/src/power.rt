@@ -2,8 +2,7 @@
 ghost use Rattle.std.specs.Prelude.{◌≡◌, ◌+◌, ◌-◌, ◌*◌, ◌^◌, ◌<◌, length, IfOk};
 ghost use Rattle.std.specs.List.{All};
 ghost use Rattle.ff_theory.specs.Ring.{IsElement, power};
-ghost use Rattle.ff_theory.specs.Poly.{polynomials};
-ghost use Rattle.ff_poly.specs.Words.{poly_of, IsPoly};
+ghost use Rattle.ff_poly.specs.Words.{poly_of, IsPoly, polys_over};
 
 use crate::Poly;
 use ff_alg::{Coefficient, FiniteField, NoMemory};
@@ -20,7 +19,7 @@ impl<E: Coefficient> Poly<E> {
         requires a { All (IsElement (K.elements k.now)) self.now }
         requires room { (length self.now - 1) * n + 1 < 2 ^ 64 }
         ensures poly { IfOk result (λ r. IsPoly (K.elements k.now) r) }
-        ensures value { IfOk result (λ r. poly_of (K.elements k.now) r ≡ power (polynomials (K.elements k.now).ring) (poly_of (K.elements k.now) self.now) n) }
+        ensures value { IfOk result (λ r. poly_of (K.elements k.now) r ≡ power (polys_over (K.elements k.now)) (poly_of (K.elements k.now) self.now) n) }
     {
         if n == 0 {
             return Poly::one(alloc, k);

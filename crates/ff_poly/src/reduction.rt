@@ -2,8 +2,7 @@
 ghost use Rattle.std.specs.Prelude.{◌≡◌, ◌<◌, ◌≤◌, ◌+◌, ◌-◌, [], length, get_or, IfOk};
 ghost use Rattle.std.specs.List.{All};
 ghost use Rattle.ff_theory.specs.Ring.{IsElement};
-ghost use Rattle.ff_theory.specs.Poly.{polynomials};
-ghost use Rattle.ff_poly.specs.Words.{poly_of, IsPoly, plane_of, IsPlane, row_of, IsPseudoDivision};
+ghost use Rattle.ff_poly.specs.Words.{poly_of, IsPoly, plane_of, IsPlane, row_of, IsPseudoDivision, polys_over, planes_over};
 ghost use Rattle.ff_poly.specs.Monomial.{monomial};
 
 use crate::coefficients::add_product;
@@ -76,7 +75,7 @@ fn multipliers<E: Coefficient, K: FiniteField<E = E>>(
     ensures factor { IfOk result (λ r. IsPoly (K.elements k.now) r.0) }
     ensures nonzero { IfOk result (λ r. 0 < length r.0) }
     ensures multiple { IfOk result (λ r. IsPoly (K.elements k.now) r.1) }
-    ensures value { IfOk result (λ r. (polynomials (K.elements k.now).ring).add ((polynomials (K.elements k.now).ring).mul (poly_of (K.elements k.now) r.0) (poly_of (K.elements k.now) top.now)) ((polynomials (K.elements k.now).ring).mul (poly_of (K.elements k.now) r.1) (poly_of (K.elements k.now) lead.now)) ≡ (polynomials (K.elements k.now).ring).zero) }
+    ensures value { IfOk result (λ r. (polys_over (K.elements k.now)).add ((polys_over (K.elements k.now)).mul (poly_of (K.elements k.now) r.0) (poly_of (K.elements k.now) top.now)) ((polys_over (K.elements k.now)).mul (poly_of (K.elements k.now) r.1) (poly_of (K.elements k.now) lead.now)) ≡ (polys_over (K.elements k.now)).zero) }
 {
     if lead.coeffs().len() == 1 {
         let inverse = k.inv(lead.coeffs()[0]);
@@ -101,10 +100,10 @@ fn lower_rows<E: Coefficient, K: FiniteField<E = E>>(
     requires f { All (λ p. IsPoly (K.elements k.now) p) f.now }
     requires nonzero { 0 < length f.now }
     requires longer { length f.now ≤ length a.now }
-    requires cancelled { (polynomials (K.elements k.now).ring).add ((polynomials (K.elements k.now).ring).mul (poly_of (K.elements k.now) c.now) (poly_of (K.elements k.now) (get_or a.now (length a.now - 1) []))) ((polynomials (K.elements k.now).ring).mul (poly_of (K.elements k.now) t.now) (poly_of (K.elements k.now) (get_or f.now (length f.now - 1) []))) ≡ (polynomials (K.elements k.now).ring).zero }
+    requires cancelled { (polys_over (K.elements k.now)).add ((polys_over (K.elements k.now)).mul (poly_of (K.elements k.now) c.now) (poly_of (K.elements k.now) (get_or a.now (length a.now - 1) []))) ((polys_over (K.elements k.now)).mul (poly_of (K.elements k.now) t.now) (poly_of (K.elements k.now) (get_or f.now (length f.now - 1) []))) ≡ (polys_over (K.elements k.now)).zero }
     ensures len { IfOk result (λ r. length r.items + 1 ≡ length a.now) }
     ensures each { IfOk result (λ r. All (λ p. IsPoly (K.elements k.now) p) r.items) }
-    ensures value { IfOk result (λ r. plane_of (K.elements k.now) r.items ≡ (polynomials (polynomials (K.elements k.now).ring)).add ((polynomials (polynomials (K.elements k.now).ring)).mul (row_of (K.elements k.now).ring (poly_of (K.elements k.now) c.now)) (plane_of (K.elements k.now) a.now)) ((polynomials (polynomials (K.elements k.now).ring)).mul (monomial (polynomials (K.elements k.now).ring) (poly_of (K.elements k.now) t.now) (length a.now - length f.now)) (plane_of (K.elements k.now) f.now))) }
+    ensures value { IfOk result (λ r. plane_of (K.elements k.now) r.items ≡ (planes_over (K.elements k.now)).add ((planes_over (K.elements k.now)).mul (row_of (K.elements k.now).ring (poly_of (K.elements k.now) c.now)) (plane_of (K.elements k.now) a.now)) ((planes_over (K.elements k.now)).mul (monomial (polys_over (K.elements k.now)) (poly_of (K.elements k.now) t.now) (length a.now - length f.now)) (plane_of (K.elements k.now) f.now))) }
 {
     let at = a.len() - f.len();
     let mut rows = Vec::with_capacity(alloc, a.len())?;
@@ -151,7 +150,7 @@ fn add_combination<E: Copy + Eq, K: FiniteField<E = E>>(
     requires second { length t.now + length b.now ≤ length sum.old + 1 }
     ensures len { length sum.new ≡ length sum.old }
     ensures each { All (IsElement (K.elements k.now)) sum.new }
-    ensures value { poly_of (K.elements k.now) sum.new ≡ (polynomials (K.elements k.now).ring).add ((polynomials (K.elements k.now).ring).add (poly_of (K.elements k.now) sum.old) ((polynomials (K.elements k.now).ring).mul (poly_of (K.elements k.now) c.now) (poly_of (K.elements k.now) a.now))) ((polynomials (K.elements k.now).ring).mul (poly_of (K.elements k.now) t.now) (poly_of (K.elements k.now) b.now)) }
+    ensures value { poly_of (K.elements k.now) sum.new ≡ (polys_over (K.elements k.now)).add ((polys_over (K.elements k.now)).add (poly_of (K.elements k.now) sum.old) ((polys_over (K.elements k.now)).mul (poly_of (K.elements k.now) c.now) (poly_of (K.elements k.now) a.now))) ((polys_over (K.elements k.now)).mul (poly_of (K.elements k.now) t.now) (poly_of (K.elements k.now) b.now)) }
 {
     add_product(k, sum, c, a);
     add_product(k, sum, t, b);
@@ -171,7 +170,7 @@ fn combination<E: Coefficient, K: FiniteField<E = E>>(
     requires t { All (IsElement (K.elements k.now)) t.now }
     requires b { All (IsElement (K.elements k.now)) b.now }
     ensures poly { IfOk result (λ r. IsPoly (K.elements k.now) r) }
-    ensures value { IfOk result (λ r. poly_of (K.elements k.now) r ≡ (polynomials (K.elements k.now).ring).add ((polynomials (K.elements k.now).ring).mul (poly_of (K.elements k.now) c.now) (poly_of (K.elements k.now) a.now)) ((polynomials (K.elements k.now).ring).mul (poly_of (K.elements k.now) t.now) (poly_of (K.elements k.now) b.now))) }
+    ensures value { IfOk result (λ r. poly_of (K.elements k.now) r ≡ (polys_over (K.elements k.now)).add ((polys_over (K.elements k.now)).mul (poly_of (K.elements k.now) c.now) (poly_of (K.elements k.now) a.now)) ((polys_over (K.elements k.now)).mul (poly_of (K.elements k.now) t.now) (poly_of (K.elements k.now) b.now))) }
 {
     let width = product_len(c.len(), a.len())?.max(product_len(t.len(), b.len())?);
     let mut sum = Poly::zeros(alloc, k, width)?;

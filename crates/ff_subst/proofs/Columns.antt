@@ -62,7 +62,7 @@ power-next R y v (suc n) p h = let e : suc n - 1 ≡ n = omega arith in ap (R.mu
 
 module _ {E : Type 0} (K : Elements E) (L : Lawful K) where
   abbrev F : Field
-  F = lawful_field K L
+  F = lawful_field L
 
   -- entry i of row j of a polynomial in code
   pub plane-entry : (rows : List (List E)) (j i : ℕ) (d : List E) → j < length rows → coeff K.ring (coeff (polynomials K.ring) (plane_of K rows).coeffs j).coeffs i ≡ coeff K.ring (map K.value (get_or rows j d)) i
@@ -154,7 +154,7 @@ module _ (F : Field) (g : Plane F) where
 
 module _ {E : Type 0} (K : Elements E) (L : Lawful K) where
   -- the row with one coefficient, as a polynomial in x and y
-  pub constant-plane : (p : List E) (c : E) → poly_of K p ≡ poly_of K (c ∷ []) → plane_of K (p ∷ []) ≡ row (lawful_field K L) (const K.ring L.laws L.tests (K.value c))
+  pub constant-plane : (p : List E) (c : E) → poly_of K p ≡ poly_of K (c ∷ []) → plane_of K (p ∷ []) ≡ row (lawful_field L) (const K.ring L.laws L.tests (K.value c))
   constant-plane p c e = ap (λ (q : Poly K.ring). poly (polynomials K.ring) (q ∷ [])) e
 
   pub one-poly : (c : E) → K.value c ≡ K.one → poly_of K (c ∷ []) ≡ (polynomials K.ring).one
@@ -162,7 +162,7 @@ module _ {E : Type 0} (K : Elements E) (L : Lawful K) where
 
   -- a list that stands for 1 has an entry
   pub one-some : (p : List E) (c : E) → poly_of K p ≡ poly_of K (c ∷ []) → K.value c ≡ K.one → 0 < length p
-  one-some [] c e h = absurd (not_same (polynomials K.ring) (polynomial_tests K.ring L.laws L.tests) (polynomials K.ring).one (polynomials K.ring).zero (polynomial_domain (lawful_field K L)).proper (sym (e ∙ one-poly c h)))
+  one-some [] c e h = absurd (not_same (polynomials K.ring) (polynomial_tests K.ring L.laws L.tests) (polynomials K.ring).one (polynomials K.ring).zero (polynomial_domain (lawful_field L)).proper (sym (e ∙ one-poly c h)))
   one-some (a ∷ p) c e h = omega arith
 
 -- a list with one more entry at its end
@@ -182,15 +182,15 @@ length-push [] x = omega arith
 length-push (y ∷ xs) x = let e : length (xs ++ x ∷ []) ≡ length xs + 1 = length-push xs x in omega (arith, e)
 
 module _ {E : Type 0} (K : Elements E) (L : Lawful K) (f : List (List E)) (y : Elem E) where
-  pub no-powers : ArePowers K L f y []
+  pub no-powers : ArePowers L f y []
   no-powers = record { each = λ k d l. absurd (omega arith); values = λ j d l. absurd (omega arith) }
 
-  pub push-powers : (xs : List (Elem E)) (x : Elem E) → ArePowers K L f y xs → IsElem K L f x → elem_of K L f x ≡ power (algebra_in K L f) (elem_of K L f y) (length xs) → ArePowers K L f y (xs ++ x ∷ [])
+  pub push-powers : (xs : List (Elem E)) (x : Elem E) → ArePowers L f y xs → IsElem L f x → elem_of L f x ≡ power (algebra_in L f) (elem_of L f y) (length xs) → ArePowers L f y (xs ++ x ∷ [])
   push-powers xs x h e v = record {
-    each = All-push (IsElem K L f) xs x h.each e;
+    each = All-push (IsElem L f) xs x h.each e;
     values = λ j d l. go j d (cases_lt j (length xs)) l;
   }
     where
-      go : (j : ℕ) (d : Elem E) → (j < length xs) ⊎ (length xs ≤ j) → j < length (xs ++ x ∷ []) → elem_of K L f (get_or (xs ++ x ∷ []) j d) ≡ power (algebra_in K L f) (elem_of K L f y) j
-      go j d (inl k) l = ap (elem_of K L f) (get_or-push xs x d j k) ∙ h.values j d k
-      go j d (inr k) l = let e : j ≡ length xs = omega (arith, length-push xs x) in ap (elem_of K L f) (get_or-last xs x d j e) ∙ v ∙ ap (power (algebra_in K L f) (elem_of K L f y)) (sym e)
+      go : (j : ℕ) (d : Elem E) → (j < length xs) ⊎ (length xs ≤ j) → j < length (xs ++ x ∷ []) → elem_of L f (get_or (xs ++ x ∷ []) j d) ≡ power (algebra_in L f) (elem_of L f y) j
+      go j d (inl k) l = ap (elem_of L f) (get_or-push xs x d j k) ∙ h.values j d k
+      go j d (inr k) l = let e : j ≡ length xs = omega (arith, length-push xs x) in ap (elem_of L f) (get_or-last xs x d j e) ∙ v ∙ ap (power (algebra_in L f) (elem_of L f y)) (sym e)

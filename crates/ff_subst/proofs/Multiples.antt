@@ -63,35 +63,35 @@ map-whole f g xs ys n le same = same ∙ ap (map g) (take_all n ys le)
 
 module _ {E : Type 0} (K : Elements E) (L : Lawful K) (f : List (List E)) where
   abbrev R : RingOps
-  R = algebra_in K L f
+  R = algebra_in L f
 
-  laws : IsCommRing (algebra_in K L f)
-  laws = algebra_is_ring (lawful_field K L) (plane_of K f)
+  laws : IsCommRing (algebra_in L f)
+  laws = algebra_is_ring (lawful_field L) (plane_of K f)
 
   -- 1/p times p/1
-  pub over-inverse : (p q : List E) (inverse factor : (algebra_in K L f).carrier) → IsPoly K p → 0 < length p → poly_of K q ≡ (polynomials K.ring).one
-      → inverse ≡ over_in K L f (q ∷ []) p → factor ≡ over_in K L f (p ∷ []) q → (algebra_in K L f).mul inverse factor ≡ (algebra_in K L f).one
+  pub over-inverse : (p q : List E) (inverse factor : (algebra_in L f).carrier) → IsPoly K p → 0 < length p → poly_of K q ≡ (polynomials K.ring).one
+      → inverse ≡ over_in L f (q ∷ []) p → factor ≡ over_in L f (p ∷ []) q → (algebra_in L f).mul inverse factor ≡ (algebra_in L f).one
   over-inverse p q inverse factor hp some one hi hf =
-      ap₂ R.mul hi (hf ∙ ap (over_of (lawful_field K L) (plane_of K f) (row (lawful_field K L) (poly_of K p))) one ∙ over-one (lawful_field K L) (plane_of K f) (row (lawful_field K L) (poly_of K p)))
-      ∙ laws.mul_comm (over_of (lawful_field K L) (plane_of K f) (row (lawful_field K L) (poly_of K q)) (poly_of K p)) (value_of (lawful_field K L) (plane_of K f) (row (lawful_field K L) (poly_of K p)))
-      ∙ over_clear (lawful_field K L) (plane_of K f) (row (lawful_field K L) (poly_of K q)) (poly_of K p) (poly-nonzero K L p hp some) ∙ one-rows K L f q one
+      ap₂ R.mul hi (hf ∙ ap (over_of (lawful_field L) (plane_of K f) (row (lawful_field L) (poly_of K p))) one ∙ over-one (lawful_field L) (plane_of K f) (row (lawful_field L) (poly_of K p)))
+      ∙ laws.mul_comm (over_of (lawful_field L) (plane_of K f) (row (lawful_field L) (poly_of K q)) (poly_of K p)) (value_of (lawful_field L) (plane_of K f) (row (lawful_field L) (poly_of K p)))
+      ∙ over_clear (lawful_field L) (plane_of K f) (row (lawful_field L) (poly_of K q)) (poly_of K p) (poly-nonzero K L p hp some) ∙ one-rows K L f q one
 
-  pub first-powers : (y : Elem E) (n : ℕ) (powers : List (Elem E)) → ArePowers K L f y powers → ArePowers K L f y (take n powers)
+  pub first-powers : (y : Elem E) (n : ℕ) (powers : List (Elem E)) → ArePowers L f y powers → ArePowers L f y (take n powers)
   first-powers y n powers h = record {
-    each = All-take (IsElem K L f) n powers h.each;
-    values = λ j d l. ap (elem_of K L f) (get_or-take n powers j d l) ∙ h.values j d (omega (arith, l, take-short n powers));
+    each = All-take (IsElem L f) n powers h.each;
+    values = λ j d l. ap (elem_of L f) (get_or-take n powers j d l) ∙ h.values j d (omega (arith, l, take-short n powers));
   }
 
   -- multiples of powers, where the inverse times the factor is 1
-  pub are-multiples : (y inverse : Elem E) (factor : (algebra_in K L f).carrier) (powers multiples : List (Elem E)) → IsElem K L f inverse
-      → (algebra_in K L f).mul (elem_of K L f inverse) factor ≡ (algebra_in K L f).one → ArePowers K L f y powers → All (IsElem K L f) multiples
-      → map (elem_of K L f) multiples ≡ map (λ e. (algebra_in K L f).mul factor (elem_of K L f e)) powers → AreMultiples K L f y inverse multiples
+  pub are-multiples : (y inverse : Elem E) (factor : (algebra_in L f).carrier) (powers multiples : List (Elem E)) → IsElem L f inverse
+      → (algebra_in L f).mul (elem_of L f inverse) factor ≡ (algebra_in L f).one → ArePowers L f y powers → All (IsElem L f) multiples
+      → map (elem_of L f) multiples ≡ map (λ e. (algebra_in L f).mul factor (elem_of L f e)) powers → AreMultiples L f y inverse multiples
   are-multiples y inverse factor powers multiples hi one hp each same = record { element = hi; each = each; values = values }
     where
-      values : (j : ℕ) (d : Elem E) → j < length multiples → R.mul (elem_of K L f inverse) (elem_of K L f (get_or multiples j d)) ≡ power R (elem_of K L f y) j
+      values : (j : ℕ) (d : Elem E) → j < length multiples → R.mul (elem_of L f inverse) (elem_of L f (get_or multiples j d)) ≡ power R (elem_of L f y) j
       values j d l =
-          let p = elem_of K L f (get_or powers j d) in
-          ap (R.mul (elem_of K L f inverse)) (map-at (elem_of K L f) (λ e. R.mul factor (elem_of K L f e)) multiples powers j d same l)
-          ∙ ring3 R laws (λ u f p. u ⊗ (f ⊗ p)) (λ u f p. (u ⊗ f) ⊗ p) refl (elem_of K L f inverse) factor p
+          let p = elem_of L f (get_or powers j d) in
+          ap (R.mul (elem_of L f inverse)) (map-at (elem_of L f) (λ e. R.mul factor (elem_of L f e)) multiples powers j d same l)
+          ∙ ring3 R laws (λ u f p. u ⊗ (f ⊗ p)) (λ u f p. (u ⊗ f) ⊗ p) refl (elem_of L f inverse) factor p
           ∙ ap (λ t. R.mul t p) one ∙ ring1 R laws (λ p. unit ⊗ p) (λ p. p) refl p
-          ∙ hp.values j d (omega (arith, l, map-length (elem_of K L f) (λ e. R.mul factor (elem_of K L f e)) multiples powers same))
+          ∙ hp.values j d (omega (arith, l, map-length (elem_of L f) (λ e. R.mul factor (elem_of L f e)) multiples powers same))

@@ -27,12 +27,12 @@ pub fn substitute<K: FiniteField>(
 ) -> Result<Option<Elem<K::E>>, NoMemory>
 where
     K::E: Coefficient,
-    requires pair { IsPair (K.elements alg2.now.k) (K.lawful alg2.now.k) alg2.now.f pair.now }
+    requires pair { IsPair (K.lawful alg2.now.k) alg2.now.f pair.now }
     requires den { IsPoly (K.elements alg2.now.k) s.now.den }
     requires num { All (λ p. IsPoly (K.elements alg2.now.k) p) s.now.num }
-    ensures element { IfOk result (λ v. IfSome v (λ r. IsElem (K.elements alg2.now.k) (K.lawful alg2.now.k) alg2.now.f r)) }
-    ensures value { IfOk result (λ v. IfSome v (λ r. ValueIs (K.elements alg2.now.k) (K.lawful alg2.now.k) alg2.now.f s.now pair.now (elem_of (K.elements alg2.now.k) (K.lawful alg2.now.k) alg2.now.f r))) }
-    ensures none { IfOk result (λ v. IfNone v (¬ HasValue (K.elements alg2.now.k) (K.lawful alg2.now.k) alg2.now.f s.now pair.now)) }
+    ensures element { IfOk result (λ v. IfSome v (λ r. IsElem (K.lawful alg2.now.k) alg2.now.f r)) }
+    ensures value { IfOk result (λ v. IfSome v (λ r. ValueIs (K.lawful alg2.now.k) alg2.now.f s.now pair.now (elem_of (K.lawful alg2.now.k) alg2.now.f r))) }
+    ensures none { IfOk result (λ v. IfNone v (¬ HasValue (K.lawful alg2.now.k) alg2.now.f s.now pair.now)) }
 {
     let at = powers_of(alloc, alg2, pair, s.num.items.len().max(1))?;
     let den = plane_at(alloc, alg2, &at, slice::from_ref(&s.den))?;
@@ -58,8 +58,8 @@ pub fn satisfies<K: FiniteField>(
 where
     K::E: Coefficient,
     requires f { IsPlane (K.elements alg2.now.k) f.now }
-    requires pair { IsPair (K.elements alg2.now.k) (K.lawful alg2.now.k) alg2.now.f pair.now }
-    ensures { IfOk result (λ r. IsTrue r ↔ Satisfies (K.elements alg2.now.k) (K.lawful alg2.now.k) f.now alg2.now.f pair.now) }
+    requires pair { IsPair (K.lawful alg2.now.k) alg2.now.f pair.now }
+    ensures { IfOk result (λ r. IsTrue r ↔ Satisfies (K.lawful alg2.now.k) f.now alg2.now.f pair.now) }
 {
     let at = powers_of(alloc, alg2, pair, f.rows().len())?;
     let value = plane_at(alloc, alg2, &at, f.rows())?;
@@ -77,11 +77,11 @@ fn takes<K: FiniteField>(
 ) -> Result<bool, NoMemory>
 where
     K::E: Coefficient,
-    requires pair { IsPair (K.elements alg2.now.k) (K.lawful alg2.now.k) alg2.now.f pair.now }
+    requires pair { IsPair (K.lawful alg2.now.k) alg2.now.f pair.now }
     requires den { IsPoly (K.elements alg2.now.k) s.now.den }
     requires num { All (λ p. IsPoly (K.elements alg2.now.k) p) s.now.num }
-    requires v { IsElem (K.elements alg2.now.k) (K.lawful alg2.now.k) alg2.now.f v.now }
-    ensures { IfOk result (λ r. IsTrue r ↔ ValueIs (K.elements alg2.now.k) (K.lawful alg2.now.k) alg2.now.f s.now pair.now (elem_of (K.elements alg2.now.k) (K.lawful alg2.now.k) alg2.now.f v.now)) }
+    requires v { IsElem (K.lawful alg2.now.k) alg2.now.f v.now }
+    ensures { IfOk result (λ r. IsTrue r ↔ ValueIs (K.lawful alg2.now.k) alg2.now.f s.now pair.now (elem_of (K.lawful alg2.now.k) alg2.now.f v.now)) }
 {
     match substitute(alloc, alg2, s, pair)? {
         Some(value) => Ok(alg2.same(&value, v)),
@@ -98,12 +98,12 @@ fn undoes<K: FiniteField>(
 ) -> Result<bool, NoMemory>
 where
     K::E: Coefficient,
-    requires back { IsPair (K.elements alg.now.k) (K.lawful alg.now.k) alg.now.f back.now }
+    requires back { IsPair (K.lawful alg.now.k) alg.now.f back.now }
     requires x_den { IsPoly (K.elements alg.now.k) pair.now.x.den }
     requires x_num { All (λ p. IsPoly (K.elements alg.now.k) p) pair.now.x.num }
     requires y_den { IsPoly (K.elements alg.now.k) pair.now.y.den }
     requires y_num { All (λ p. IsPoly (K.elements alg.now.k) p) pair.now.y.num }
-    ensures { IfOk result (λ r. IsTrue r ↔ Undoes (K.elements alg.now.k) (K.lawful alg.now.k) alg.now.f pair.now back.now) }
+    ensures { IfOk result (λ r. IsTrue r ↔ Undoes (K.lawful alg.now.k) alg.now.f pair.now back.now) }
 {
     let x = alg.x(alloc)?;
     let takes_x = takes(alloc, alg, &pair.x, back, &x)?;
@@ -129,9 +129,9 @@ pub fn is_inverse<K: FiniteField, L: Ledger>(
 where
     K::E: Coefficient,
     requires field { alg1.now.k ≡ alg2.now.k }
-    requires pair { IsPair (K.elements alg2.now.k) (K.lawful alg2.now.k) alg2.now.f pair.now }
-    requires back { IsPair (K.elements alg1.now.k) (K.lawful alg1.now.k) alg1.now.f back.now }
-    ensures inverse { IfOk result (λ r. IsTrue r ↔ IsInversePair (K.elements alg2.now.k) (K.lawful alg2.now.k) alg1.now.f alg2.now.f pair.now back.now) }
+    requires pair { IsPair (K.lawful alg2.now.k) alg2.now.f pair.now }
+    requires back { IsPair (K.lawful alg1.now.k) alg1.now.f back.now }
+    ensures inverse { IfOk result (λ r. IsTrue r ↔ IsInversePair (K.lawful alg2.now.k) alg1.now.f alg2.now.f pair.now back.now) }
     ensures tests { tests.new ≡ tests.old + 1 }
 {
     tests.tick();

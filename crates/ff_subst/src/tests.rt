@@ -71,7 +71,7 @@ fn algebra(alloc: Global, k: Prime, rows: [&[u64]; 3]) -> Result<Alg<Prime>, Fai
 
 /// The element with these parts.
 fn element(alloc: Global, a: &Alg<Prime>, parts: Parts) -> Result<Elem<u32>, Fail>
-    ensures { IfOk result (λ e. IsElem (⟦<Prime as Ring>⟧.elements a.now.k) (⟦<Prime as Ring>⟧.lawful a.now.k) a.now.f e) }
+    ensures { IfOk result (λ e. IsElem (⟦<Prime as Ring>⟧.lawful a.now.k) a.now.f e) }
 {
     let num = plane(alloc, &a.k, [parts[1], parts[2], &[]])?;
     let den = poly(alloc, &a.k, parts[0])?;
@@ -84,7 +84,7 @@ fn element(alloc: Global, a: &Alg<Prime>, parts: Parts) -> Result<Elem<u32>, Fai
 
 /// The pair with these parts.
 fn pair(alloc: Global, a: &Alg<Prime>, x: Parts, y: Parts) -> Result<Pair<u32>, Fail>
-    ensures { IfOk result (λ p. IsPair (⟦<Prime as Ring>⟧.elements a.now.k) (⟦<Prime as Ring>⟧.lawful a.now.k) a.now.f p) }
+    ensures { IfOk result (λ p. IsPair (⟦<Prime as Ring>⟧.lawful a.now.k) a.now.f p) }
 {
     Ok(Pair {
         x: element(alloc, a, x)?,

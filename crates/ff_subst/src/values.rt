@@ -36,10 +36,10 @@ pub fn powers_of<'a, K: FiniteField>(
 ) -> Result<Powers<'a, K::E>, NoMemory>
 where
     K::E: Coefficient,
-    requires { IsPair (K.elements alg.now.k) (K.lawful alg.now.k) alg.now.f pair.now }
+    requires { IsPair (K.lawful alg.now.k) alg.now.f pair.now }
     ensures pair { IfOk result (λ p. p.pair.now ≡ pair.now) }
     ensures count { IfOk result (λ p. length p.of_y.items ≡ count) }
-    ensures powers { IfOk result (λ p. ArePowers (K.elements alg.now.k) (K.lawful alg.now.k) alg.now.f pair.now.y p.of_y.items) }
+    ensures powers { IfOk result (λ p. ArePowers (K.lawful alg.now.k) alg.now.f pair.now.y p.of_y.items) }
 {
     let mut of_y = Vec::new(alloc);
     for _i in 0..count {
@@ -58,10 +58,10 @@ fn next_power<K: FiniteField>(
 ) -> Result<Elem<K::E>, NoMemory>
 where
     K::E: Coefficient,
-    requires y { IsElem (K.elements alg.now.k) (K.lawful alg.now.k) alg.now.f y.now }
-    requires known { ArePowers (K.elements alg.now.k) (K.lawful alg.now.k) alg.now.f y.now known.now }
-    ensures element { IfOk result (λ r. IsElem (K.elements alg.now.k) (K.lawful alg.now.k) alg.now.f r) }
-    ensures value { IfOk result (λ r. elem_of (K.elements alg.now.k) (K.lawful alg.now.k) alg.now.f r ≡ power (algebra_in (K.elements alg.now.k) (K.lawful alg.now.k) alg.now.f) (elem_of (K.elements alg.now.k) (K.lawful alg.now.k) alg.now.f y.now) (length known.now)) }
+    requires y { IsElem (K.lawful alg.now.k) alg.now.f y.now }
+    requires known { ArePowers (K.lawful alg.now.k) alg.now.f y.now known.now }
+    ensures element { IfOk result (λ r. IsElem (K.lawful alg.now.k) alg.now.f r) }
+    ensures value { IfOk result (λ r. elem_of (K.lawful alg.now.k) alg.now.f r ≡ power (algebra_in (K.lawful alg.now.k) alg.now.f) (elem_of (K.lawful alg.now.k) alg.now.f y.now) (length known.now)) }
 {
     if known.is_empty() {
         return alg.one(alloc);
@@ -128,8 +128,8 @@ where
     requires num { IsPoly (K.elements alg.now.k) num.now }
     requires den { IsPoly (K.elements alg.now.k) den.now }
     requires nonzero { 0 < length den.now }
-    ensures element { IfOk result (λ r. IsElem (K.elements alg.now.k) (K.lawful alg.now.k) alg.now.f r) }
-    ensures value { IfOk result (λ r. elem_of (K.elements alg.now.k) (K.lawful alg.now.k) alg.now.f r ≡ over_in (K.elements alg.now.k) (K.lawful alg.now.k) alg.now.f (num.now ∷ []) den.now) }
+    ensures element { IfOk result (λ r. IsElem (K.lawful alg.now.k) alg.now.f r) }
+    ensures value { IfOk result (λ r. elem_of (K.lawful alg.now.k) alg.now.f r ≡ over_in (K.lawful alg.now.k) alg.now.f (num.now ∷ []) den.now) }
 {
     let plane = Plane::from_rows(alloc, &alg.k, slice::from_ref(num))?;
     alg.from_parts(alloc, &plane, den)
@@ -144,10 +144,10 @@ fn times<K: FiniteField>(
 ) -> Result<Vec<Elem<K::E>>, NoMemory>
 where
     K::E: Coefficient,
-    requires factor { IsElem (K.elements alg.now.k) (K.lawful alg.now.k) alg.now.f factor.now }
-    requires elems { All (IsElem (K.elements alg.now.k) (K.lawful alg.now.k) alg.now.f) elems.now }
-    ensures elements { IfOk result (λ r. All (IsElem (K.elements alg.now.k) (K.lawful alg.now.k) alg.now.f) r.items) }
-    ensures values { IfOk result (λ r. map (elem_of (K.elements alg.now.k) (K.lawful alg.now.k) alg.now.f) r.items ≡ map (λ e. (algebra_in (K.elements alg.now.k) (K.lawful alg.now.k) alg.now.f).mul (elem_of (K.elements alg.now.k) (K.lawful alg.now.k) alg.now.f factor.now) (elem_of (K.elements alg.now.k) (K.lawful alg.now.k) alg.now.f e)) elems.now) }
+    requires factor { IsElem (K.lawful alg.now.k) alg.now.f factor.now }
+    requires elems { All (IsElem (K.lawful alg.now.k) alg.now.f) elems.now }
+    ensures elements { IfOk result (λ r. All (IsElem (K.lawful alg.now.k) alg.now.f) r.items) }
+    ensures values { IfOk result (λ r. map (elem_of (K.lawful alg.now.k) alg.now.f) r.items ≡ map (λ e. (algebra_in (K.lawful alg.now.k) alg.now.f).mul (elem_of (K.lawful alg.now.k) alg.now.f factor.now) (elem_of (K.lawful alg.now.k) alg.now.f e)) elems.now) }
 {
     let mut products = Vec::with_capacity(alloc, elems.len())?;
     for elem in elems {
@@ -161,8 +161,8 @@ fn constant<K: FiniteField>(alloc: Global, alg: &Alg<K>, c: K::E) -> Result<Elem
 where
     K::E: Coefficient,
     requires { IsElement (K.elements alg.now.k) c }
-    ensures element { IfOk result (λ r. IsElem (K.elements alg.now.k) (K.lawful alg.now.k) alg.now.f r) }
-    ensures value { IfOk result (λ r. elem_of (K.elements alg.now.k) (K.lawful alg.now.k) alg.now.f r ≡ constant (lawful_field (K.elements alg.now.k) (K.lawful alg.now.k)) (plane_of (K.elements alg.now.k) alg.now.f) ((K.elements alg.now.k).value c)) }
+    ensures element { IfOk result (λ r. IsElem (K.lawful alg.now.k) alg.now.f r) }
+    ensures value { IfOk result (λ r. elem_of (K.lawful alg.now.k) alg.now.f r ≡ constant (lawful_field (K.lawful alg.now.k)) (plane_of (K.elements alg.now.k) alg.now.f) ((K.elements alg.now.k).value c)) }
 {
     let coefficient = Poly::from_coeffs(alloc, &alg.k, &[c])?;
     let one = Poly::one(alloc, &alg.k)?;
@@ -180,10 +180,10 @@ fn add_term<K: FiniteField>(
 where
     K::E: Coefficient,
     requires c { IsElement (K.elements alg.now.k) c }
-    requires sum { IsElem (K.elements alg.now.k) (K.lawful alg.now.k) alg.now.f sum }
-    requires power { IsElem (K.elements alg.now.k) (K.lawful alg.now.k) alg.now.f power.now }
-    ensures element { IfOk result (λ r. IsElem (K.elements alg.now.k) (K.lawful alg.now.k) alg.now.f r) }
-    ensures value { IfOk result (λ r. elem_of (K.elements alg.now.k) (K.lawful alg.now.k) alg.now.f r ≡ (algebra_in (K.elements alg.now.k) (K.lawful alg.now.k) alg.now.f).add (elem_of (K.elements alg.now.k) (K.lawful alg.now.k) alg.now.f sum) ((algebra_in (K.elements alg.now.k) (K.lawful alg.now.k) alg.now.f).mul (constant (lawful_field (K.elements alg.now.k) (K.lawful alg.now.k)) (plane_of (K.elements alg.now.k) alg.now.f) ((K.elements alg.now.k).value c)) (elem_of (K.elements alg.now.k) (K.lawful alg.now.k) alg.now.f power.now))) }
+    requires sum { IsElem (K.lawful alg.now.k) alg.now.f sum }
+    requires power { IsElem (K.lawful alg.now.k) alg.now.f power.now }
+    ensures element { IfOk result (λ r. IsElem (K.lawful alg.now.k) alg.now.f r) }
+    ensures value { IfOk result (λ r. elem_of (K.lawful alg.now.k) alg.now.f r ≡ (algebra_in (K.lawful alg.now.k) alg.now.f).add (elem_of (K.lawful alg.now.k) alg.now.f sum) ((algebra_in (K.lawful alg.now.k) alg.now.f).mul (constant (lawful_field (K.lawful alg.now.k)) (plane_of (K.elements alg.now.k) alg.now.f) ((K.elements alg.now.k).value c)) (elem_of (K.lawful alg.now.k) alg.now.f power.now))) }
 {
     if is_zero(&alg.k, c) {
         return Ok(sum);
@@ -203,11 +203,11 @@ fn column<K: FiniteField>(
 ) -> Result<Elem<K::E>, NoMemory>
 where
     K::E: Coefficient,
-    requires powers { AreMultiples (K.elements alg.now.k) (K.lawful alg.now.k) alg.now.f at.now.pair.now.y at.now.inverse.now at.now.of_y.now.items }
+    requires powers { AreMultiples (K.lawful alg.now.k) alg.now.f at.now.pair.now.y at.now.inverse.now at.now.of_y.now.items }
     requires rows { All (λ p. IsPoly (K.elements alg.now.k) p) rows.now }
     requires enough { length rows.now ≤ length at.now.of_y.now.items }
-    ensures element { IfOk result (λ r. IsElem (K.elements alg.now.k) (K.lawful alg.now.k) alg.now.f r) }
-    ensures value { IfOk result (λ r. (algebra_in (K.elements alg.now.k) (K.lawful alg.now.k) alg.now.f).mul (elem_of (K.elements alg.now.k) (K.lawful alg.now.k) alg.now.f at.now.inverse.now) (elem_of (K.elements alg.now.k) (K.lawful alg.now.k) alg.now.f r) ≡ column_of (lawful_field (K.elements alg.now.k) (K.lawful alg.now.k)) (plane_of (K.elements alg.now.k) alg.now.f) (elem_of (K.elements alg.now.k) (K.lawful alg.now.k) alg.now.f at.now.pair.now.y) (plane_of (K.elements alg.now.k) rows.now) (length rows.now) i) }
+    ensures element { IfOk result (λ r. IsElem (K.lawful alg.now.k) alg.now.f r) }
+    ensures value { IfOk result (λ r. (algebra_in (K.lawful alg.now.k) alg.now.f).mul (elem_of (K.lawful alg.now.k) alg.now.f at.now.inverse.now) (elem_of (K.lawful alg.now.k) alg.now.f r) ≡ column_of (lawful_field (K.lawful alg.now.k)) (plane_of (K.elements alg.now.k) alg.now.f) (elem_of (K.lawful alg.now.k) alg.now.f at.now.pair.now.y) (plane_of (K.elements alg.now.k) rows.now) (length rows.now) i) }
 {
     let mut sum = alg.zero(alloc)?;
     for j in 0..rows.len() {
@@ -237,12 +237,12 @@ fn multiple_at<K: FiniteField>(
 ) -> Result<Elem<K::E>, NoMemory>
 where
     K::E: Coefficient,
-    requires pair { IsPair (K.elements alg.now.k) (K.lawful alg.now.k) alg.now.f at.now.pair.now }
-    requires powers { AreMultiples (K.elements alg.now.k) (K.lawful alg.now.k) alg.now.f at.now.pair.now.y at.now.inverse.now at.now.of_y.now.items }
+    requires pair { IsPair (K.lawful alg.now.k) alg.now.f at.now.pair.now }
+    requires powers { AreMultiples (K.lawful alg.now.k) alg.now.f at.now.pair.now.y at.now.inverse.now at.now.of_y.now.items }
     requires rows { All (λ p. IsPoly (K.elements alg.now.k) p) rows.now }
     requires enough { length rows.now ≤ length at.now.of_y.now.items }
-    ensures element { IfOk result (λ r. IsElem (K.elements alg.now.k) (K.lawful alg.now.k) alg.now.f r) }
-    ensures value { IfOk result (λ r. (algebra_in (K.elements alg.now.k) (K.lawful alg.now.k) alg.now.f).mul (elem_of (K.elements alg.now.k) (K.lawful alg.now.k) alg.now.f at.now.inverse.now) (elem_of (K.elements alg.now.k) (K.lawful alg.now.k) alg.now.f r) ≡ plane_at_pair (lawful_field (K.elements alg.now.k) (K.lawful alg.now.k)) (plane_of (K.elements alg.now.k) alg.now.f) (elem_of (K.elements alg.now.k) (K.lawful alg.now.k) alg.now.f at.now.pair.now.x) (elem_of (K.elements alg.now.k) (K.lawful alg.now.k) alg.now.f at.now.pair.now.y) (plane_of (K.elements alg.now.k) rows.now)) }
+    ensures element { IfOk result (λ r. IsElem (K.lawful alg.now.k) alg.now.f r) }
+    ensures value { IfOk result (λ r. (algebra_in (K.lawful alg.now.k) alg.now.f).mul (elem_of (K.lawful alg.now.k) alg.now.f at.now.inverse.now) (elem_of (K.lawful alg.now.k) alg.now.f r) ≡ plane_at_pair (lawful_field (K.lawful alg.now.k)) (plane_of (K.elements alg.now.k) alg.now.f) (elem_of (K.lawful alg.now.k) alg.now.f at.now.pair.now.x) (elem_of (K.lawful alg.now.k) alg.now.f at.now.pair.now.y) (plane_of (K.elements alg.now.k) rows.now)) }
 {
     let mut i = width(rows);
     let mut sum = alg.zero(alloc)?;
@@ -264,12 +264,12 @@ pub fn plane_at<K: FiniteField>(
 ) -> Result<Elem<K::E>, NoMemory>
 where
     K::E: Coefficient,
-    requires pair { IsPair (K.elements alg.now.k) (K.lawful alg.now.k) alg.now.f at.now.pair.now }
-    requires powers { ArePowers (K.elements alg.now.k) (K.lawful alg.now.k) alg.now.f at.now.pair.now.y at.now.of_y.items }
+    requires pair { IsPair (K.lawful alg.now.k) alg.now.f at.now.pair.now }
+    requires powers { ArePowers (K.lawful alg.now.k) alg.now.f at.now.pair.now.y at.now.of_y.items }
     requires rows { All (λ p. IsPoly (K.elements alg.now.k) p) rows.now }
     requires enough { length rows.now ≤ length at.now.of_y.items }
-    ensures element { IfOk result (λ r. IsElem (K.elements alg.now.k) (K.lawful alg.now.k) alg.now.f r) }
-    ensures value { IfOk result (λ r. elem_of (K.elements alg.now.k) (K.lawful alg.now.k) alg.now.f r ≡ plane_at_pair (lawful_field (K.elements alg.now.k) (K.lawful alg.now.k)) (plane_of (K.elements alg.now.k) alg.now.f) (elem_of (K.elements alg.now.k) (K.lawful alg.now.k) alg.now.f at.now.pair.now.x) (elem_of (K.elements alg.now.k) (K.lawful alg.now.k) alg.now.f at.now.pair.now.y) (plane_of (K.elements alg.now.k) rows.now)) }
+    ensures element { IfOk result (λ r. IsElem (K.lawful alg.now.k) alg.now.f r) }
+    ensures value { IfOk result (λ r. elem_of (K.lawful alg.now.k) alg.now.f r ≡ plane_at_pair (lawful_field (K.lawful alg.now.k)) (plane_of (K.elements alg.now.k) alg.now.f) (elem_of (K.lawful alg.now.k) alg.now.f at.now.pair.now.x) (elem_of (K.lawful alg.now.k) alg.now.f at.now.pair.now.y) (plane_of (K.elements alg.now.k) rows.now)) }
 {
     let powers = &at.of_y[..rows.len()];
     let clearing = clearing(alloc, &alg.k, powers)?;

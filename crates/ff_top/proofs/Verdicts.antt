@@ -30,8 +30,8 @@ tells P false text h y n = inr ((λ p. let e : false ≡ true = h.1 p in cc), n 
 
 module _ (job : Job) (k1 k2 : Prime) (f1 f2 : List (List ℕ)) (e1 : k1 ≡ job.prime) (e2 : k2 ≡ job.prime) (d1 : f1 ≡ job.first) (d2 : f2 ≡ job.second) where
   pub verdict : (x y u v : RawElem) (pair back : Pair ℕ) (text : List ℕ) → job.elems.items ≡ x ∷ y ∷ u ∷ v ∷ []
-      → IsPairOf (prime_elements (number_of k2)) (laws_of k2) f2 x y pair → IsPairOf (prime_elements (number_of k1)) (laws_of k1) f1 u v back
-      → Tells (IsInversePair (prime_elements (number_of k2)) (laws_of k2) f1 f2 pair back) text → IsVerdict job text
+      → IsPairOf (laws_of k2) f2 x y pair → IsPairOf (laws_of k1) f1 u v back
+      → Tells (IsInversePair (laws_of k2) f1 f2 pair back) text → IsVerdict job text
   verdict x y u v pair back text four hp hb ht = record {
     x = x;
     y = y;
@@ -39,12 +39,12 @@ module _ (job : Job) (k1 k2 : Prime) (f1 f2 : List (List ℕ)) (e1 : k1 ≡ job.
     v = v;
     fractions = four;
     pair = pair;
-    is_pair = subst (λ f. IsPairOf (field_of job) (laws_of job.prime) f x y pair) d2 (subst (λ k. IsPairOf (prime_elements (number_of k)) (laws_of k) f2 x y pair) e2 hp);
+    is_pair = subst (λ f. IsPairOf (laws_of job.prime) f x y pair) d2 (subst (λ k. IsPairOf (laws_of k) f2 x y pair) e2 hp);
     back = back;
-    is_back = subst (λ f. IsPairOf (field_of job) (laws_of job.prime) f u v back) d1 (subst (λ k. IsPairOf (prime_elements (number_of k)) (laws_of k) f1 u v back) e1 hb);
-    tells = subst (λ f. Tells (IsInversePair (field_of job) (laws_of job.prime) job.first f pair back) text) d2
-        (subst (λ f. Tells (IsInversePair (field_of job) (laws_of job.prime) f f2 pair back) text) d1
-        (subst (λ k. Tells (IsInversePair (prime_elements (number_of k)) (laws_of k) f1 f2 pair back) text) e2 ht));
+    is_back = subst (λ f. IsPairOf (laws_of job.prime) f u v back) d1 (subst (λ k. IsPairOf (laws_of k) f1 u v back) e1 hb);
+    tells = subst (λ f. Tells (IsInversePair (laws_of job.prime) job.first f pair back) text) d2
+        (subst (λ f. Tells (IsInversePair (laws_of job.prime) f f2 pair back) text) d1
+        (subst (λ k. Tells (IsInversePair (laws_of k) f1 f2 pair back) text) e2 ht));
   }
 
 -- what is said of a text that has a job

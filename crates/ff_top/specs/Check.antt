@@ -41,10 +41,10 @@ abbrev pub laws_of : (k : Prime) → Lawful (prime_elements (number_of k))
 laws_of k = record { laws = prime_ring_laws (number_of k) k.known; tests = prime_tests (number_of k); finite = prime_laws (number_of k) k.known }
 
 -- the pair of E(g) that two fractions are
-pub record IsPairOf (K : Elements ℕ) (L : Lawful K) (g : List (List ℕ)) (x y : RawElem) (pair : Pair ℕ) : Type 0 where
-  pub elements : IsPair K L g pair
-  pub x_is : elem_of K L g pair.x ≡ over_in K L g x.num x.den
-  pub y_is : elem_of K L g pair.y ≡ over_in K L g y.num y.den
+pub record IsPairOf {K : Elements ℕ} (L : Lawful K) (g : List (List ℕ)) (x y : RawElem) (pair : Pair ℕ) : Type 0 where
+  pub elements : IsPair L g pair
+  pub x_is : elem_of L g pair.x ≡ over_in L g x.num x.den
+  pub y_is : elem_of L g pair.y ≡ over_in L g y.num y.den
 
 abbrev pub yes_text : List ℕ
 yes_text = line (codes "yes")
@@ -65,10 +65,10 @@ pub record IsVerdict (job : Job) (text : List ℕ) : Type 0 where
   pub v : RawElem
   pub fractions : job.elems.items ≡ x ∷ y ∷ u ∷ v ∷ []
   pub pair : Pair ℕ
-  pub is_pair : IsPairOf (field_of job) (laws_of job.prime) job.second x y pair
+  pub is_pair : IsPairOf (laws_of job.prime) job.second x y pair
   pub back : Pair ℕ
-  pub is_back : IsPairOf (field_of job) (laws_of job.prime) job.first u v back
-  pub tells : Tells (IsInversePair (field_of job) (laws_of job.prime) job.first job.second pair back) text
+  pub is_back : IsPairOf (laws_of job.prime) job.first u v back
+  pub tells : Tells (IsInversePair (laws_of job.prime) job.first job.second pair back) text
 
 -- the text has no fault, and this is the verdict on its job
 pub record IsJudged (written : List ℕ) (v : Text) : Type 0 where

@@ -102,7 +102,7 @@ fn judged<L: Ledger>(alloc: Global, job: &Job, tests: &mut Steps<L>) -> Result<A
 fn pair_of(alloc: Global, alg: &Alg<Prime>, x: &RawElem, y: &RawElem) -> Result<Pair<u32>, NoMemory>
     requires x { IsFraction (prime_elements (number_of alg.now.k)) x.now }
     requires y { IsFraction (prime_elements (number_of alg.now.k)) y.now }
-    ensures { IfOk result (λ pair. IsPairOf (prime_elements (number_of alg.now.k)) (laws_of alg.now.k) alg.now.f x.now y.now pair) }
+    ensures { IfOk result (λ pair. IsPairOf (laws_of alg.now.k) alg.now.f x.now y.now pair) }
 {
     let x = alg.from_parts(alloc, &x.num, &x.den)?;
     let y = alg.from_parts(alloc, &y.num, &y.den)?;

@@ -76,7 +76,7 @@ returns-clause-step g c =
     let q = monomial D (poly_of K c.in_ok-e.q) at in
     record {
       g = D.one;
-      g_nonzero = (polynomial_domain (lawful_field K L)).proper;
+      g_nonzero = (polynomial_domain (lawful_field L)).proper;
       e = poly_of K c.in_ok-e.e;
       e_nonzero = poly-nonzero K L c.in_ok-e.e c.in_ok-e.ensures.polys.0 c.in_ok-e.ensures.nonzero;
       q = q;

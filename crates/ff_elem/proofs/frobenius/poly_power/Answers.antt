@@ -42,7 +42,7 @@ loop-c-preserved g c =
     let K = g.K.Ring.elements c.args.k.now in
     let zeros = subst (λ n. AddsZeros K.ring K.value c.push.new.self.items c.push_zeros.new.list.items (n - 1)) c.characteristic-between.ensures c.in_ok-push_zeros.ensures.zeros in
     let step = frobenius-step K.ring (g.met.K.Ring.laws c.args.k.now) (g.met.K.Ring.tests c.args.k.now) K.value K.characteristic
-    (polynomials_characteristic (lawful_field K (g.K.Ring.lawful c.args.k.now)) K.characteristic (g.met.K.FiniteField.is_finite_field c.args.k.now).least)
+    (polynomials_characteristic (lawful_field (g.K.Ring.lawful c.args.k.now)) K.characteristic (g.met.K.FiniteField.is_finite_field c.args.k.now).least)
     c.coeffs-c-items.result.now c.loop-c.list.items c.push.new.self.items c.push_zeros.new.list.items c.loop-c.c-index c.c-item.result c.frob.result
     c.loop-c-test.true c.c-item.is c.in_ok-push.ensures.items zeros c.frob.ensures.value c.loop-c.invariant.len c.loop-c.invariant.value
     in

@@ -44,7 +44,7 @@ loop-p-preserved g c =
     let D = polynomials K.ring in
     let zeros = subst (λ n. AddsZeros D (λ p. poly_of K p) c.push.new.self.items c.push_zero_rows.new.rows.items (n - 1)) c.characteristic-between.ensures c.in_ok-push_zero_rows.ensures.zeros in
     let step = frobenius-step D (polynomial_laws K.ring laws tests) (polynomial_tests K.ring laws tests) (λ p. poly_of K p) K.characteristic
-    (planes_characteristic (lawful_field K (g.K.Ring.lawful c.args.k.now)) K.characteristic (g.met.K.FiniteField.is_finite_field c.args.k.now).least)
+    (planes_characteristic (lawful_field (g.K.Ring.lawful c.args.k.now)) K.characteristic (g.met.K.FiniteField.is_finite_field c.args.k.now).least)
     c.args.rows.now c.loop-p.powers.items c.push.new.self.items c.push_zero_rows.new.rows.items c.loop-p.p-index c.p-item.result c.in_ok-poly_power.field-0
     c.loop-p-test.true c.p-item.is c.in_ok-push.ensures.items zeros c.in_ok-poly_power.ensures.value c.loop-p.invariant.len c.loop-p.invariant.value
     in

@@ -9,4 +9,4 @@ returns-clause-value g c =
     let K = g.K.Ring.elements c.args.k.now in
     let L = g.K.Ring.lawful c.args.k.now in
     c.in_ok-element.ensures.value
-    ∙ ap (λ p. over_of (lawful_field K L) (plane_of K c.args.f.now) p (poly_of K c.args.c.now)) (ap (plane_of K) c.deref.ensures.value ∙ c.in_ok-num.ensures.value)
+    ∙ ap (λ p. over_of (lawful_field L) (plane_of K c.args.f.now) p (poly_of K c.args.c.now)) (ap (plane_of K) c.deref.ensures.value ∙ c.in_ok-num.ensures.value)

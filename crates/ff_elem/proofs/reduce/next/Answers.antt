@@ -11,7 +11,7 @@ pub returns-then-len-f-clause-value : goal.returns-then-len-f-clause-value
 returns-then-len-f-clause-value g c =
     let K = g.K.Ring.elements c.args.k.now in
     let L = g.K.Ring.lawful c.args.k.now in
-    λ w h. ap (plane_in K L c.args.f.now) c.in_ok-insert.ensures.items ∙ raised-value K L c.args.f.now c.in_ok-checked_mul.field-0 c.args.c c.args.p.now c.args.rest.items w c.in_ok-checked_mul.ensures.value h
+    λ w h. ap (plane_in L c.args.f.now) c.in_ok-insert.ensures.items ∙ raised-value K L c.args.f.now c.in_ok-checked_mul.field-0 c.args.c c.args.p.now c.args.rest.items w c.in_ok-checked_mul.ensures.value h
 
 pub lowered-requires : goal.lowered-requires
 lowered-requires g c =
@@ -27,5 +27,5 @@ pub returns-clause-value : goal.returns-clause-value
 returns-clause-value g c =
     let K = g.K.Ring.elements c.args.k.now in
     let L = g.K.Ring.lawful c.args.k.now in
-    λ w h. multiple-value K L c.args.f.now c.in_ok-checked_mul-2.field-0 c.args.c c.in_ok-e.e c.in_ok-e.lower.items c.deref.result.now (plane_in K L c.args.f.now (c.args.p.now ∷ w)) c.in_ok-checked_mul-2.ensures.value c.in_ok-e.ensures.value
-    (ap (plane_in K L c.args.f.now) (c.deref.ensures.value ∙ c.in_ok-insert.ensures.items) ∙ raised-value K L c.args.f.now c.in_ok-checked_mul.field-0 c.args.c c.args.p.now c.args.rest.items w c.in_ok-checked_mul.ensures.value h)
+    λ w h. multiple-value K L c.args.f.now c.in_ok-checked_mul-2.field-0 c.args.c c.in_ok-e.e c.in_ok-e.lower.items c.deref.result.now (plane_in L c.args.f.now (c.args.p.now ∷ w)) c.in_ok-checked_mul-2.ensures.value c.in_ok-e.ensures.value
+    (ap (plane_in L c.args.f.now) (c.deref.ensures.value ∙ c.in_ok-insert.ensures.items) ∙ raised-value K L c.args.f.now c.in_ok-checked_mul.field-0 c.args.c c.args.p.now c.args.rest.items w c.in_ok-checked_mul.ensures.value h)

@@ -21,7 +21,7 @@ loop-i-init g c =
       nonzero = omega (arith, c.in_ok-c.ensures.len);
       rest = subst (All (λ p. IsPoly K p)) (sym list) (All-drop (λ p. IsPoly K p) i rows c.requires.rows);
       small = omega (arith, ap length list, length-drop i rows, c.saturating_sub-i.ensures, c.requires.has_y);
-      value = ap (plane_in K L f) list ∙ one-value K L f c.in_ok-c.c (plane_in K L f (drop i rows)) c.in_ok-c.ensures.value;
+      value = ap (plane_in L f) list ∙ one-value K L f c.in_ok-c.c (plane_in L f (drop i rows)) c.in_ok-c.ensures.value;
     }
 
 pub next-requires : goal.next-requires
@@ -46,5 +46,5 @@ loop-i-preserved g c =
       rest = e.polys.1;
       small = e.small;
       value = e.value (drop c.loop-i.i c.args.rows.now) h.value
-          ∙ ap (λ w. (algebra_in K L f).mul (poly_in K L f c.in_ok-multiplier.multiplier) (plane_in K L f w)) (sym (drop-entry c.args.rows.now i c.loop-i.i c.index-rows-i.result next (omega (arith, h.inside)) c.index-rows-i.is));
+          ∙ ap (λ w. (algebra_in L f).mul (poly_in L f c.in_ok-multiplier.multiplier) (plane_in L f w)) (sym (drop-entry c.args.rows.now i c.loop-i.i c.index-rows-i.result next (omega (arith, h.inside)) c.index-rows-i.is));
     }

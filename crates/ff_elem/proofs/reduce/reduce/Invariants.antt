@@ -13,7 +13,7 @@ invariant-loop-i g l =
       nonzero : 0 < length l.c;
       rest : All (λ p. IsPoly K p) l.rest.items;
       small : length l.rest.items < length l.f;
-      value : plane_in K L l.f l.rest.items ≡ (algebra_in K L l.f).mul (poly_in K L l.f l.c) (plane_in K L l.f (drop l.i l.rows));
+      value : plane_in L l.f l.rest.items ≡ (algebra_in L l.f).mul (poly_in L l.f l.c) (plane_in L l.f (drop l.i l.rows));
     }
 
 abbrev pub decreases-loop-i : goal.decreases-loop-i

@@ -9,7 +9,7 @@ use Rattle.ff_elem.proofs.terms.lowest_terms.Goals as goal
 pub returns-then-is_one-clause-lowest : goal.returns-then-is_one-clause-lowest
 returns-then-is_one-clause-lowest g c =
     let K = g.K.Ring.elements c.args.k.now in
-    one-lowest (lawful_field K (g.K.Ring.lawful c.args.k.now)) (length c.args.num.items) (poly_of K c.args.den) (map (λ p. poly_of K p) c.args.num.items) (length-map c.args.num.items (λ p. poly_of K p)) (c.if-is_one.ensures refl)
+    one-lowest (lawful_field (g.K.Ring.lawful c.args.k.now)) (length c.args.num.items) (poly_of K c.args.den) (map (λ p. poly_of K p) c.args.num.items) (length-map c.args.num.items (λ p. poly_of K p)) (c.if-is_one.ensures refl)
 
 pub returns-clause-equal : goal.returns-clause-equal
 returns-clause-equal g c =

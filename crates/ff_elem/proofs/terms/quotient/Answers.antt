@@ -23,4 +23,4 @@ returns-clause-value g c =
     let K = g.K.Ring.elements c.args.k.now in
     let L = g.K.Ring.lawful c.args.k.now in
     c.in_ok-element.ensures.value
-    ∙ over-multiple K L c.args.f.now c.args.rows.now c.in_ok-c.rest.items c.args.den.now c.in_ok-c.c c.in_ok-whole.whole c.requires.den c.requires.nonzero c.in_ok-c.ensures.polys.0 c.in_ok-c.ensures.nonzero (subst (λ f. plane_in K L f c.in_ok-c.rest.items ≡ (algebra_in K L f).mul (poly_in K L f c.in_ok-c.c) (plane_in K L f c.args.rows.now)) c.rows.ensures c.in_ok-c.ensures.value) c.in_ok-whole.ensures.value
+    ∙ over-multiple K L c.args.f.now c.args.rows.now c.in_ok-c.rest.items c.args.den.now c.in_ok-c.c c.in_ok-whole.whole c.requires.den c.requires.nonzero c.in_ok-c.ensures.polys.0 c.in_ok-c.ensures.nonzero (subst (λ f. plane_in L f c.in_ok-c.rest.items ≡ (algebra_in L f).mul (poly_in L f c.in_ok-c.c) (plane_in L f c.args.rows.now)) c.rows.ensures c.in_ok-c.ensures.value) c.in_ok-whole.ensures.value

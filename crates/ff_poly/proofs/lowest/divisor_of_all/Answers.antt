@@ -39,7 +39,7 @@ returns-then-coeffs-eq1-clause-gcd g c =
     let K = g.K.Ring.elements c.args.k.now in
     let laws = polynomial_laws K.ring (g.met.K.Ring.laws c.args.k.now) (g.met.K.Ring.tests c.args.k.now) in
     let divisor = c.loop-num.divisor in
-    let unit = unit_poly (lawful_field K (g.K.Ring.lawful c.args.k.now)) (poly_of K divisor) (poly-size K.ring (g.met.K.Ring.laws c.args.k.now) (g.met.K.Ring.tests c.args.k.now) K.value divisor c.loop-num.invariant.poly.canonical ∙ ap length (sym c.coeffs.ensures) ∙ c.if-coeffs-eq1.true) in
+    let unit = unit_poly (lawful_field (g.K.Ring.lawful c.args.k.now)) (poly_of K divisor) (poly-size K.ring (g.met.K.Ring.laws c.args.k.now) (g.met.K.Ring.tests c.args.k.now) K.value divisor c.loop-num.invariant.poly.canonical ∙ ap length (sym c.coeffs.ensures) ∙ c.if-coeffs-eq1.true) in
     gcds-stop (polynomials K.ring) laws (poly_of K c.args.den.now) (polys_of K c.args.nums.now) c.loop-num.num-index (length c.args.nums.now) (poly_of K divisor) unit.0 c.loop-num.auto.num-index-end unit.1 c.loop-num.invariant.gcd
 
 pub returns-clause-gcd : goal.returns-clause-gcd

@@ -15,12 +15,12 @@ satisfies-requires-2 g c =
 
 pub undoes-requires : goal.undoes-requires
 undoes-requires g c =
-    let p = subst (λ k. IsPair (g.K.Ring.elements k) (g.K.Ring.lawful k) c.args.alg2.now.f c.args.pair.now) (sym c.requires.field) c.requires.pair in
+    let p = subst (λ k. IsPair (g.K.Ring.lawful k) c.args.alg2.now.f c.args.pair.now) (sym c.requires.field) c.requires.pair in
     (search rules, (c.requires.back, (p.x.den, (p.x.num, (p.y.den, p.y.num)))))
 
 pub undoes-requires-2 : goal.undoes-requires-2
 undoes-requires-2 g c =
-    let p = subst (λ k. IsPair (g.K.Ring.elements k) (g.K.Ring.lawful k) c.args.alg1.now.f c.args.back.now) c.requires.field c.requires.back in
+    let p = subst (λ k. IsPair (g.K.Ring.lawful k) c.args.alg1.now.f c.args.back.now) c.requires.field c.requires.back in
     (search rules, (c.requires.pair, (p.x.den, (p.x.num, (p.y.den, p.y.num)))))
 
 pub returns-then-not-satisfying-clause-inverse : goal.returns-then-not-satisfying-clause-inverse
@@ -28,11 +28,11 @@ returns-then-not-satisfying-clause-inverse g c = (λ e. cc, λ u. absurd (let t 
 
 pub returns-then-not-back_satisfying-clause-inverse : goal.returns-then-not-back_satisfying-clause-inverse
 returns-then-not-back_satisfying-clause-inverse g c =
-    (λ e. cc, λ u. absurd (let t : c.in_ok-back_satisfying.back_satisfying ≡ true = c.in_ok-back_satisfying.ensures.1 (subst (λ k. Satisfies (g.K.Ring.elements k) (g.K.Ring.lawful k) c.args.alg2.now.f c.args.alg1.now.f c.args.back.now) (sym c.requires.field) u.back_satisfies) in cc))
+    (λ e. cc, λ u. absurd (let t : c.in_ok-back_satisfying.back_satisfying ≡ true = c.in_ok-back_satisfying.ensures.1 (subst (λ k. Satisfies (g.K.Ring.lawful k) c.args.alg2.now.f c.args.alg1.now.f c.args.back.now) (sym c.requires.field) u.back_satisfies) in cc))
 
 pub returns-then-not-undone-clause-inverse : goal.returns-then-not-undone-clause-inverse
 returns-then-not-undone-clause-inverse g c =
-    (λ e. cc, λ u. absurd (let t : c.in_ok-undone.undone ≡ true = c.in_ok-undone.ensures.1 (subst (λ k. Undoes (g.K.Ring.elements k) (g.K.Ring.lawful k) c.args.alg1.now.f c.args.pair.now c.args.back.now) (sym c.requires.field) u.undoes) in cc))
+    (λ e. cc, λ u. absurd (let t : c.in_ok-undone.undone ≡ true = c.in_ok-undone.ensures.1 (subst (λ k. Undoes (g.K.Ring.lawful k) c.args.alg1.now.f c.args.pair.now c.args.back.now) (sym c.requires.field) u.undoes) in cc))
 
 pub returns-clause-inverse : goal.returns-clause-inverse
 returns-clause-inverse g c =
@@ -41,12 +41,12 @@ returns-clause-inverse g c =
     let one : c.in_ok-satisfying.satisfying ≡ true = cc in
     let two : c.in_ok-back_satisfying.back_satisfying ≡ true = cc in
     let three : c.in_ok-undone.undone ≡ true = cc in
-    if_ok c.undoes-2.result (λ r. IsTrue r ↔ Undoes K L c.args.alg2.now.f c.args.back.now c.args.pair.now) (λ r. IsTrue r ↔ IsInversePair K L c.args.alg1.now.f c.args.alg2.now.f c.args.pair.now c.args.back.now)
+    if_ok c.undoes-2.result (λ r. IsTrue r ↔ Undoes L c.args.alg2.now.f c.args.back.now c.args.pair.now) (λ r. IsTrue r ↔ IsInversePair L c.args.alg1.now.f c.args.alg2.now.f c.args.pair.now c.args.back.now)
     (λ r h. (
       λ t. record {
         satisfies = c.in_ok-satisfying.ensures.0 one;
-        back_satisfies = subst (λ k. Satisfies (g.K.Ring.elements k) (g.K.Ring.lawful k) c.args.alg2.now.f c.args.alg1.now.f c.args.back.now) c.requires.field (c.in_ok-back_satisfying.ensures.0 two);
-        undoes = subst (λ k. Undoes (g.K.Ring.elements k) (g.K.Ring.lawful k) c.args.alg1.now.f c.args.pair.now c.args.back.now) c.requires.field (c.in_ok-undone.ensures.0 three);
+        back_satisfies = subst (λ k. Satisfies (g.K.Ring.lawful k) c.args.alg2.now.f c.args.alg1.now.f c.args.back.now) c.requires.field (c.in_ok-back_satisfying.ensures.0 two);
+        undoes = subst (λ k. Undoes (g.K.Ring.lawful k) c.args.alg1.now.f c.args.pair.now c.args.back.now) c.requires.field (c.in_ok-undone.ensures.0 three);
         undone = h.0 t;
       },
       λ u. h.1 u.undone,

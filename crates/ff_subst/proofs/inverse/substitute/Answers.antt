@@ -27,9 +27,9 @@ plane_at-requires-in-Ok g c =
       (
         elem_small g.row.K-E g.met.K.Ring.small,
         (
-          subst (IsPair K L f) (sym c.in_ok-at.ensures.pair) c.requires.pair,
+          subst (IsPair L f) (sym c.in_ok-at.ensures.pair) c.requires.pair,
           (
-            subst (λ p. ArePowers K L f p.y c.in_ok-at.at.of_y.items) (sym c.in_ok-at.ensures.pair) c.in_ok-at.ensures.powers,
+            subst (λ p. ArePowers L f p.y c.in_ok-at.at.of_y.items) (sym c.in_ok-at.ensures.pair) c.in_ok-at.ensures.powers,
             (subst (All (IsPoly K)) (sym (c.deref.ensures.value ∙ ap (λ (e : Elem _). e.num) c.s.view_is)) c.requires.num, omega (arith, ap length c.deref.ensures.value, c.deref.ensures.len, c.len.ensures, c.max.ensures, c.in_ok-at.ensures.count)),
           ),
         ),
@@ -41,14 +41,14 @@ returns-in-Ok-clause-value g c =
     let K = g.K.Ring.elements c.args.alg2.now.k in
     let L = g.K.Ring.lawful c.args.alg2.now.k in
     let f = c.args.alg2.now.f in
-    let F = lawful_field K L in
+    let F = lawful_field L in
     let G = plane_of K f in
-    let X = elem_of K L f c.args.pair.now.x in
-    let Y = elem_of K L f c.args.pair.now.y in
-    value_is F G (poly_of K c.args.s.now.den) (plane_of K c.args.s.now.num) X Y (elem_of K L f c.in_ok-den.den) (elem_of K L f c.in-Ok.inverse) (elem_of K L f c.in_ok-num-in-Ok.num) (elem_of K L f c.in_ok-value-in-Ok.value)
-    (c.in_ok-den.ensures.value ∙ ap (λ (p : Pair _). plane_at_pair F G (elem_of K L f p.x) (elem_of K L f p.y) (plane_of K c.from_ref.result.now)) c.in_ok-at.ensures.pair
+    let X = elem_of L f c.args.pair.now.x in
+    let Y = elem_of L f c.args.pair.now.y in
+    value_is F G (poly_of K c.args.s.now.den) (plane_of K c.args.s.now.num) X Y (elem_of L f c.in_ok-den.den) (elem_of L f c.in-Ok.inverse) (elem_of L f c.in_ok-num-in-Ok.num) (elem_of L f c.in_ok-value-in-Ok.value)
+    (c.in_ok-den.ensures.value ∙ ap (λ (p : Pair _). plane_at_pair F G (elem_of L f p.x) (elem_of L f p.y) (plane_of K c.from_ref.result.now)) c.in_ok-at.ensures.pair
     ∙ ap (λ rows. plane_at_pair F G X Y (plane_of K rows)) c.from_ref.ensures.value ∙ ap (λ (e : Elem _). plane_at_pair F G X Y (plane_of K (e.den ∷ []))) c.s.view_is ∙ row-at F G X Y (poly_of K c.args.s.now.den)) c.in-Ok.ensures.inverse
-    (c.in_ok-num-in-Ok.ensures.value ∙ ap (λ (p : Pair _). plane_at_pair F G (elem_of K L f p.x) (elem_of K L f p.y) (plane_of K c.deref.result.now)) c.in_ok-at.ensures.pair
+    (c.in_ok-num-in-Ok.ensures.value ∙ ap (λ (p : Pair _). plane_at_pair F G (elem_of L f p.x) (elem_of L f p.y) (plane_of K c.deref.result.now)) c.in_ok-at.ensures.pair
     ∙ ap (λ rows. plane_at_pair F G X Y (plane_of K rows)) (c.deref.ensures.value ∙ ap (λ (e : Elem _). e.num) c.s.view_is)) c.in_ok-value-in-Ok.ensures.value
 
 pub returns-in-Err-ZeroDivisor-clause-none : goal.returns-in-Err-ZeroDivisor-clause-none
@@ -56,12 +56,12 @@ returns-in-Err-ZeroDivisor-clause-none g c =
     let K = g.K.Ring.elements c.args.alg2.now.k in
     let L = g.K.Ring.lawful c.args.alg2.now.k in
     let f = c.args.alg2.now.f in
-    let F = lawful_field K L in
+    let F = lawful_field L in
     let G = plane_of K f in
-    let X = elem_of K L f c.args.pair.now.x in
-    let Y = elem_of K L f c.args.pair.now.y in
-    let divides : IsZeroDivisor K L f c.in_ok-den.den c.in-Err-ZeroDivisor.field-0-0 = subst (DividesZero K L f c.in_ok-den.den) c.in-Err-ZeroDivisor.field-0-is c.in-Err-ZeroDivisor.ensures.divisor in
-    no_value F G (poly_of K c.args.s.now.den) X (elem_of K L f c.in_ok-den.den) (elem_of K L f c.in-Err-ZeroDivisor.field-0-0)
-    (c.in_ok-den.ensures.value ∙ ap (λ (p : Pair _). plane_at_pair F G (elem_of K L f p.x) (elem_of K L f p.y) (plane_of K c.from_ref.result.now)) c.in_ok-at.ensures.pair
+    let X = elem_of L f c.args.pair.now.x in
+    let Y = elem_of L f c.args.pair.now.y in
+    let divides : IsZeroDivisor L f c.in_ok-den.den c.in-Err-ZeroDivisor.field-0-0 = subst (DividesZero L f c.in_ok-den.den) c.in-Err-ZeroDivisor.field-0-is c.in-Err-ZeroDivisor.ensures.divisor in
+    no_value F G (poly_of K c.args.s.now.den) X (elem_of L f c.in_ok-den.den) (elem_of L f c.in-Err-ZeroDivisor.field-0-0)
+    (c.in_ok-den.ensures.value ∙ ap (λ (p : Pair _). plane_at_pair F G (elem_of L f p.x) (elem_of L f p.y) (plane_of K c.from_ref.result.now)) c.in_ok-at.ensures.pair
     ∙ ap (λ rows. plane_at_pair F G X Y (plane_of K rows)) c.from_ref.ensures.value ∙ ap (λ (e : Elem _). plane_at_pair F G X Y (plane_of K (e.den ∷ []))) c.s.view_is ∙ row-at F G X Y (poly_of K c.args.s.now.den))
     divides.product divides.nonzero

@@ -12,14 +12,14 @@ returns-then-not-takes_x g c =
     let K = g.K.Ring.elements c.args.alg.now.k in
     let L = g.K.Ring.lawful c.args.alg.now.k in
     let f = c.args.alg.now.f in
-    (λ e. cc, λ u. absurd (let t : c.in_ok-takes_x.takes_x ≡ true = c.in_ok-takes_x.ensures.1 (subst (ValueIs K L f c.args.pair.now.x c.args.back.now) (sym c.in_ok-x.ensures.value) u.x) in cc))
+    (λ e. cc, λ u. absurd (let t : c.in_ok-takes_x.takes_x ≡ true = c.in_ok-takes_x.ensures.1 (subst (ValueIs L f c.args.pair.now.x c.args.back.now) (sym c.in_ok-x.ensures.value) u.x) in cc))
 
 pub returns : goal.returns
 returns g c =
     let K = g.K.Ring.elements c.args.alg.now.k in
     let L = g.K.Ring.lawful c.args.alg.now.k in
     let f = c.args.alg.now.f in
-    let takes_x : ValueIs K L f c.args.pair.now.x c.args.back.now (x_of (lawful_field K L) (plane_of K f)) = subst (ValueIs K L f c.args.pair.now.x c.args.back.now) c.in_ok-x.ensures.value (c.in_ok-takes_x.ensures.0 (let t : c.in_ok-takes_x.takes_x ≡ true = cc in t)) in
-    if_ok c.takes-2.result (λ r. IsTrue r ↔ ValueIs K L f c.args.pair.now.y c.args.back.now (elem_of K L f c.in_ok-y.y)) (λ r. IsTrue r ↔ Undoes K L f c.args.pair.now c.args.back.now)
-    (λ r h. (λ t. record { x = takes_x; y = subst (ValueIs K L f c.args.pair.now.y c.args.back.now) c.in_ok-y.ensures.value (h.0 t) }, λ u. h.1 (subst (ValueIs K L f c.args.pair.now.y c.args.back.now) (sym c.in_ok-y.ensures.value) u.y)))
+    let takes_x : ValueIs L f c.args.pair.now.x c.args.back.now (x_of (lawful_field L) (plane_of K f)) = subst (ValueIs L f c.args.pair.now.x c.args.back.now) c.in_ok-x.ensures.value (c.in_ok-takes_x.ensures.0 (let t : c.in_ok-takes_x.takes_x ≡ true = cc in t)) in
+    if_ok c.takes-2.result (λ r. IsTrue r ↔ ValueIs L f c.args.pair.now.y c.args.back.now (elem_of L f c.in_ok-y.y)) (λ r. IsTrue r ↔ Undoes L f c.args.pair.now c.args.back.now)
+    (λ r h. (λ t. record { x = takes_x; y = subst (ValueIs L f c.args.pair.now.y c.args.back.now) c.in_ok-y.ensures.value (h.0 t) }, λ u. h.1 (subst (ValueIs L f c.args.pair.now.y c.args.back.now) (sym c.in_ok-y.ensures.value) u.y)))
     c.takes-2.ensures

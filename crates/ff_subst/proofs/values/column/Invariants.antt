@@ -7,6 +7,6 @@ use Rattle.ff_subst.proofs.values.column.Given as goal
 
 abbrev pub invariant-loop-j : goal.invariant-loop-j
 invariant-loop-j g l = record {
-  element : IsElem (g.K.Ring.elements l.alg.k) (g.K.Ring.lawful l.alg.k) l.alg.f l.sum;
-  value : (algebra_in (g.K.Ring.elements l.alg.k) (g.K.Ring.lawful l.alg.k) l.alg.f).mul (elem_of (g.K.Ring.elements l.alg.k) (g.K.Ring.lawful l.alg.k) l.alg.f l.at.inverse.now) (elem_of (g.K.Ring.elements l.alg.k) (g.K.Ring.lawful l.alg.k) l.alg.f l.sum) ≡ column_of (lawful_field (g.K.Ring.elements l.alg.k) (g.K.Ring.lawful l.alg.k)) (plane_of (g.K.Ring.elements l.alg.k) l.alg.f) (elem_of (g.K.Ring.elements l.alg.k) (g.K.Ring.lawful l.alg.k) l.alg.f l.at.pair.now.y) (plane_of (g.K.Ring.elements l.alg.k) l.rows) l.j l.i;
+  element : IsElem (g.K.Ring.lawful l.alg.k) l.alg.f l.sum;
+  value : (algebra_in (g.K.Ring.lawful l.alg.k) l.alg.f).mul (elem_of (g.K.Ring.lawful l.alg.k) l.alg.f l.at.inverse.now) (elem_of (g.K.Ring.lawful l.alg.k) l.alg.f l.sum) ≡ column_of (lawful_field (g.K.Ring.lawful l.alg.k)) (plane_of (g.K.Ring.elements l.alg.k) l.alg.f) (elem_of (g.K.Ring.lawful l.alg.k) l.alg.f l.at.pair.now.y) (plane_of (g.K.Ring.elements l.alg.k) l.rows) l.j l.i;
 }

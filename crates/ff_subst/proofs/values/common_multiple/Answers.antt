@@ -18,5 +18,5 @@ returns-clause-nonzero g c =
     let K = g.K.Ring.elements c.args.k.now in
     let L = g.K.Ring.lawful c.args.k.now in
     let rest = c.in_ok-rest.rest in
-    let some = nonzero-length K L rest (lowest_nonzero (lawful_field K L) (polynomials (polynomials K.ring)).zero _ (poly_of K rest) _ c.in_ok-rest.ensures.lowest) in
+    let some = nonzero-length K L rest (lowest_nonzero (lawful_field L) (polynomials (polynomials K.ring)).zero _ (poly_of K rest) _ c.in_ok-rest.ensures.lowest) in
     product-length K L c.in_ok-multiple.multiple rest c.args.b.now c.in_ok-rest.ensures.den c.requires.b some c.requires.b_nonzero c.in_ok-multiple.ensures.value

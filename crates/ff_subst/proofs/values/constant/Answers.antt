@@ -18,10 +18,10 @@ pub returns-clause-value : goal.returns-clause-value
 returns-clause-value g c =
     let K = g.K.Ring.elements c.args.alg.now.k in
     let L = g.K.Ring.lawful c.args.alg.now.k in
-    let F = lawful_field K L in
+    let F = lawful_field L in
     let G = plane_of K c.args.alg.now.f in
     let f = c.args.alg.now.f in
-    if_ok c.over.result (λ r. elem_of K L f r ≡ over_of F G (plane_of K (c.in_ok-coefficient.coefficient ∷ [])) (poly_of K c.in_ok-one.one)) (λ r. elem_of K L f r ≡ constant F G (K.value c.args.c))
+    if_ok c.over.result (λ r. elem_of L f r ≡ over_of F G (plane_of K (c.in_ok-coefficient.coefficient ∷ [])) (poly_of K c.in_ok-one.one)) (λ r. elem_of L f r ≡ constant F G (K.value c.args.c))
     (λ r h. h ∙ ap (λ N. over_of F G N (poly_of K c.in_ok-one.one)) (constant-plane K L c.in_ok-coefficient.coefficient c.args.c c.in_ok-coefficient.ensures.value)
     ∙ ap (over_of F G (row F (const K.ring L.laws L.tests (K.value c.args.c)))) c.in_ok-one.ensures.value
     ∙ constant-parts F G (K.value c.args.c)) c.over.ensures.value

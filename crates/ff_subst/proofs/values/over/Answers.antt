@@ -16,8 +16,8 @@ returns-clause-value g c =
     let K = g.K.Ring.elements c.args.alg.now.k in
     let L = g.K.Ring.lawful c.args.alg.now.k in
     let f = c.args.alg.now.f in
-    let F = lawful_field K L in
+    let F = lawful_field L in
     let G = plane_of K f in
     let d = poly_of K c.args.den.now in
-    if_ok c.from_parts.result (λ r. elem_of K L f r ≡ over_of F G (plane_of K c.in_ok-plane.plane) d) (λ r. elem_of K L f r ≡ over_of F G (plane_of K (c.args.num.now ∷ [])) d)
+    if_ok c.from_parts.result (λ r. elem_of L f r ≡ over_of F G (plane_of K c.in_ok-plane.plane) d) (λ r. elem_of L f r ≡ over_of F G (plane_of K (c.args.num.now ∷ [])) d)
     (λ r h. h ∙ ap (λ N. over_of F G N d) (c.in_ok-plane.ensures.value ∙ ap (plane_of K) c.from_ref.ensures.value)) c.from_parts.ensures.value

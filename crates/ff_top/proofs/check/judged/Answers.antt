@@ -13,7 +13,7 @@ returns-clause-verdict g c =
     let first = c.in_ok-first.first in
     let second = c.in_ok-second.second in
     let text = c.in_ok-to_vec.field-0.items in
-    let P = IsInversePair (prime_elements (number_of second.k)) (laws_of second.k) first.f second.f c.in_ok-pair.pair c.in_ok-back.back in
+    let P = IsInversePair (laws_of second.k) first.f second.f c.in_ok-pair.pair c.in_ok-back.back in
     let whole : text ≡ c.if-inverse.text.now = c.in_ok-to_vec.ensures.items_if_clones_equal (λ x y same. same) ∙ c.as_bytes.ensures.value in
     let yes : c.in_ok-inverse.inverse ≡ true → text ≡ yes_text = λ e. whole ∙ elim c.if-inverse.branch [ then-inverse w ↦ ap (λ t. t.now) w.text-is | else-inverse w ↦ absurd (let f : c.in_ok-inverse.inverse ≡ false = w.if-inverse.false in let g : true ≡ false = sym e ∙ f in cc) ] in
     let no : c.in_ok-inverse.inverse ≡ false → text ≡ no_text = λ e. whole ∙ elim c.if-inverse.branch [ then-inverse w ↦ absurd (let f : c.in_ok-inverse.inverse ≡ true = w.if-inverse.true in let g : false ≡ true = sym e ∙ f in cc) | else-inverse w ↦ ap (λ t. t.now) w.text-is ] in

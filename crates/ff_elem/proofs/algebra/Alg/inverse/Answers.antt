@@ -20,8 +20,8 @@ returns-then-is_empty-clause-divisor g c =
     let e = c.in_ok-last.ensures in
     let none : length p.value ≡ 0 = ap length (sym c.rows-value.ensures) ∙ eqb-true (length c.rows-value.result.now) 0 (sym c.is_empty.ensures ∙ c.if-is_empty.true) in
     divisor-value K L f c.args.a.now c.in_ok-u.u p c.args.self.now.plane c.args.self.now.has_y c.requires c.in_ok-u.ensures.element e.pair none (e.divisor none)
-    (ap (λ n. (algebra_in K L f).mul (plane_in K L f p.factor) (plane_in K L f n)) (sym c.rows.ensures) ∙ e.value)
-    (c.in_ok-u.ensures.value ∙ ap (plane_in K L f) c.rows-then-is_empty.ensures)
+    (ap (λ n. (algebra_in L f).mul (plane_in L f p.factor) (plane_in L f n)) (sym c.rows.ensures) ∙ e.value)
+    (c.in_ok-u.ensures.value ∙ ap (plane_in L f) c.rows-then-is_empty.ensures)
 
 pub returns-then-is_empty-clause-none : goal.returns-then-is_empty-clause-none
 returns-then-is_empty-clause-none g c =
@@ -50,6 +50,6 @@ returns-clause-inverse g c =
     let some = positive (length c.rows-value.result.now) (sym c.is_empty.ensures ∙ c.if-is_empty.false) in
     let one : length p.value ≡ 1 = omega (arith, some, ap length c.rows-value.ensures, e.short) in
     inverse-value K L f a c.in_ok-inverse.inverse p top c.requires e.pair one (c.index-value-0.is ∙ ap (λ l. get_or l 0 top) c.rows-value.ensures)
-    (ap (λ n. (algebra_in K L f).mul (plane_in K L f p.factor) (plane_in K L f n)) (sym c.rows.ensures) ∙ e.value)
+    (ap (λ n. (algebra_in L f).mul (plane_in L f p.factor) (plane_in L f n)) (sym c.rows.ensures) ∙ e.value)
     (c.in_ok-inverse.ensures.value
-    ∙ ap (λ rows. over_of (lawful_field K L) (plane_of K f) ((polynomials (polynomials K.ring)).mul (row_of K.ring (poly_of K a.den)) (plane_of K rows)) (poly_of K top)) c.rows-2.ensures)
+    ∙ ap (λ rows. over_of (lawful_field L) (plane_of K f) ((polynomials (polynomials K.ring)).mul (row_of K.ring (poly_of K a.den)) (plane_of K rows)) (poly_of K top)) c.rows-2.ensures)

@@ -15,7 +15,7 @@ returns-clause-element g c =
     record {
       den = subst (IsPoly K) (sym c.in_ok-copy.ensures) c.requires.den;
       num = c.in_ok-negatives.ensures.each;
-      lowest = (negative-value K L f (degree (lawful_field K L) (plane_of K f)) c.args.a.now _ c.in_ok-copy.ensures value c.requires.lowest).0;
+      lowest = (negative-value K L f (degree (lawful_field L) (plane_of K f)) c.args.a.now _ c.in_ok-copy.ensures value c.requires.lowest).0;
     }
 
 pub returns-clause-value : goal.returns-clause-value
@@ -24,4 +24,4 @@ returns-clause-value g c =
     let L = g.K.Ring.lawful c.args.self.now.k in
     let f = c.args.self.now.f in
     let value = c.in_ok-negatives.ensures.value ∙ ap (map (λ p. (polynomials K.ring).neg (poly_of K p))) c.rows.ensures in
-    (negative-value K L f (degree (lawful_field K L) (plane_of K f)) c.args.a.now _ c.in_ok-copy.ensures value c.requires.lowest).1
+    (negative-value K L f (degree (lawful_field L) (plane_of K f)) c.args.a.now _ c.in_ok-copy.ensures value c.requires.lowest).1

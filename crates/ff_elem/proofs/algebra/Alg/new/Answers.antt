@@ -10,12 +10,12 @@ use Rattle.ff_elem.proofs.algebra.Alg.new.Goals as goal
 pub returns-clause-ring : goal.returns-clause-ring
 returns-clause-ring g c =
     let K = g.K.Ring.elements c.args.k in
-    algebra_is_ring (lawful_field K (g.K.Ring.lawful c.args.k)) (plane_of K c.args.f.now)
+    algebra_is_ring (lawful_field (g.K.Ring.lawful c.args.k)) (plane_of K c.args.f.now)
 
 pub returns-clause-forms : goal.returns-clause-forms
 returns-clause-forms g c =
     let K = g.K.Ring.elements c.args.k in
-    form (lawful_field K (g.K.Ring.lawful c.args.k)) (plane_of K c.args.f.now)
+    form (lawful_field (g.K.Ring.lawful c.args.k)) (plane_of K c.args.f.now)
 
 pub returns-clause-proper : goal.returns-clause-proper
 returns-clause-proper g c =
@@ -24,4 +24,4 @@ returns-clause-proper g c =
     let f = c.args.f.now in
     let n = length f - 1 in
     let long : length f ≡ suc n = omega (arith, c.requires.has_y) in
-    one-nonzero (lawful_field K L) (plane_of K f) (not-empty K L f n c.requires.plane long) (omega (arith, plane-size K L f c.requires.plane, c.requires.has_y))
+    one-nonzero (lawful_field L) (plane_of K f) (not-empty K L f n c.requires.plane long) (omega (arith, plane-size K L f c.requires.plane, c.requires.has_y))

@@ -11,4 +11,4 @@ returns-clause-value g c =
     let L = g.K.Ring.lawful c.args.self.now.k in
     let f = c.args.self.now.f in
     ok_map _ _ c.quotient.result
-    (λ r h. h ∙ over-one-value K L f c.deref.result.now c.in_ok-one.one c.in_ok-one.ensures.value ∙ ap (plane_in K L f) (c.deref.ensures.value ∙ c.in_ok-rows.ensures) ∙ one-rows K L f c.in_ok-copy.field-0 (ap (poly_of K) c.in_ok-copy.ensures ∙ c.in_ok-one.ensures.value)) c.quotient.ensures.value
+    (λ r h. h ∙ over-one-value K L f c.deref.result.now c.in_ok-one.one c.in_ok-one.ensures.value ∙ ap (plane_in L f) (c.deref.ensures.value ∙ c.in_ok-rows.ensures) ∙ one-rows K L f c.in_ok-copy.field-0 (ap (poly_of K) c.in_ok-copy.ensures ∙ c.in_ok-one.ensures.value)) c.quotient.ensures.value

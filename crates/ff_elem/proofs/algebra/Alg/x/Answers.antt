@@ -11,5 +11,5 @@ returns-clause-value g c =
     let L = g.K.Ring.lawful c.args.self.now.k in
     let f = c.args.self.now.f in
     ok_map _ _ c.quotient.result
-    (λ r h. h ∙ over-one-value K L f c.deref.result.now c.in_ok-one.one c.in_ok-one.ensures.value ∙ ap (plane_in K L f) (c.deref.ensures.value ∙ c.in_ok-rows.ensures)
+    (λ r h. h ∙ over-one-value K L f c.deref.result.now c.in_ok-one.one c.in_ok-one.ensures.value ∙ ap (plane_in L f) (c.deref.ensures.value ∙ c.in_ok-rows.ensures)
     ∙ x-rows K L f c.in_ok-x.x (c.in_ok-x.ensures.value ∙ ap₂ (λ a b. poly K.ring (a ∷ b ∷ [])) c.zero.ensures.value c.one-2.ensures.value)) c.quotient.ensures.value

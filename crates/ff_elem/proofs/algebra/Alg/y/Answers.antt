@@ -37,5 +37,5 @@ returns-clause-value g c =
     let f = c.args.self.now.f in
     ok_map _ _ c.quotient.result
     (λ r h. h ∙ over-one-value K L f c.deref.result.now c.in_ok-one.one c.in_ok-one.ensures.value
-    ∙ ap (plane_in K L f) (c.deref.ensures.value ∙ c.in_ok-push.ensures.items ∙ ap (λ t. t ++ c.in_ok-copy.field-0 ∷ []) c.in_ok-rows.ensures)
+    ∙ ap (plane_in L f) (c.deref.ensures.value ∙ c.in_ok-push.ensures.items ∙ ap (λ t. t ++ c.in_ok-copy.field-0 ∷ []) c.in_ok-rows.ensures)
     ∙ y-rows K L f c.zero.result c.in_ok-copy.field-0 c.zero.ensures (ap (poly_of K) c.in_ok-copy.ensures ∙ c.in_ok-one.ensures.value)) c.quotient.ensures.value

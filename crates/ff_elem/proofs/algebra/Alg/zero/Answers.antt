@@ -10,4 +10,4 @@ returns-clause-value g c =
     let L = g.K.Ring.lawful c.args.self.now.k in
     let f = c.args.self.now.f in
     ok_map _ _ c.quotient.result
-    (λ r h. h ∙ over-one-value K L f c.deref.result.now c.in_ok-one.one c.in_ok-one.ensures.value ∙ ap (plane_in K L f) (c.deref.ensures.value ∙ c.new-rows.ensures.items) ∙ zero-rows K L f) c.quotient.ensures.value
+    (λ r h. h ∙ over-one-value K L f c.deref.result.now c.in_ok-one.one c.in_ok-one.ensures.value ∙ ap (plane_in L f) (c.deref.ensures.value ∙ c.new-rows.ensures.items) ∙ zero-rows K L f) c.quotient.ensures.value
