@@ -18,7 +18,8 @@ use Rattle.ff_poly.specs.Words.{poly_of, IsPoly, plane_of, IsPlane}
 use Rattle.ff_poly.specs.Monomial.{monomial}
 use Rattle.ff_elem.specs.Elem.{algebra_in, plane_in, poly_in, y_in}
 use Rattle.ff_elem.proofs.PolyLemmas.{nonzero-length}
-use Rattle.ff_elem.proofs.RowLemmas.{row-value, tops-cancel}
+use Rattle.ff_poly.proofs.Rows.{row-value}
+use Rattle.ff_elem.proofs.RowLemmas.{tops-cancel}
 
 -- a list and its last entry
 pub list-last : {X : Type 0} (xs : List X) (n : ℕ) (x : X) → length xs ≡ suc n → x ≡ get_or xs n x → xs ≡ take n xs ++ x ∷ []

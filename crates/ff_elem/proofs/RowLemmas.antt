@@ -11,6 +11,7 @@ use Rattle.ff_theory.proofs.Powers.{power-add}
 use Rattle.ff_theory.proofs.Division.{const, x}
 use Rattle.ff_theory.proofs.Evaluate.{const_map}
 use Rattle.ff_theory.proofs.FrobeniusPoly.{poly-push}
+use Rattle.ff_poly.proofs.Rows.{row-value}
 use Rattle.ff_poly.proofs.Product.{power-mul}
 use Rattle.ff_theory.proofs.Poly.{scale-coeff, polynomial_laws, polynomial_tests}
 use Rattle.ff_theory.proofs.Coeffs.{coeff-past, poly_ext}
@@ -94,11 +95,6 @@ module _ (R : RingOps) (laws : IsCommRing R) (tests : IsTested R) where
           ∙ mul_zero P PL (X (length v))
 
 module _ {E : Type 0} (K : Elements E) where
-  pub row-value : (rows : List (List E)) (i : ℕ) → poly_of K (get_or rows i []) ≡ coeff (polynomials K.ring) (map (λ p. poly_of K p) rows) i
-  row-value [] i = refl
-  row-value (p ∷ rows) zero = refl
-  row-value (p ∷ rows) (suc i) = row-value rows i
-
   empty : IsPoly K []
   empty = record { each = λ k d l. absurd (omega arith); canonical = refl }
 
@@ -131,7 +127,7 @@ module _ {E : Type 0} (K : Elements E) where
       where
         go : (i < at) ⊎ (at ≤ i) → D.mul (poly_of K q) (poly_of K r) ≡ coeff D (raised D at (list_scale D (poly_of K q) (map (λ p. poly_of K p) rows))) i
         go (inl l) = ap (λ t. D.mul (poly_of K q) (poly_of K t)) (below l) ∙ mul_zero D (polynomial_laws K.ring laws tests) (poly_of K q) ∙ sym (raised-below D at _ i l)
-        go (inr l) = ap (λ t. D.mul (poly_of K q) (poly_of K t)) (above l) ∙ ap (D.mul (poly_of K q)) (row-value rows (i - at))
+        go (inr l) = ap (λ t. D.mul (poly_of K q) (poly_of K t)) (above l) ∙ ap (D.mul (poly_of K q)) (row-value K rows (i - at))
             ∙ sym (raised-at D at (list_scale D (poly_of K q) (map (λ p. poly_of K p) rows)) (i - at) i (omega arith) ∙ scale-coeff D (polynomial_laws K.ring laws tests) (polynomial_tests K.ring laws tests) (poly_of K q) (map (λ p. poly_of K p) rows) (i - at))
 
     pub raised_row-poly : (rows : List (List E)) (at i : ℕ) (r : List E) → All (λ p. IsPoly K p) rows → (i < at → r ≡ []) → (at ≤ i → r ≡ get_or rows (i - at) []) → IsPoly K r

@@ -4,7 +4,8 @@ use Rattle.ff_theory.specs.Ring.{RingOps, IsCommRing}
 use Rattle.ff_theory.specs.Lawful.{Domain, Field}
 use Rattle.ff_theory.specs.Poly.{coeff, put, Poly, poly, polynomials}
 use Rattle.ff_theory.specs.Division.{size}
-use Rattle.ff_factors.specs.Factors.{Divides, DividesAll, leading_coeff, IsContentFree, times_row}
+use Rattle.ff_theory.specs.Divides.{Divides}
+use Rattle.ff_factors.specs.Factors.{DividesAll, leading_coeff, IsContentFree, times_row}
 use Rattle.ff_theory.proofs.Solver.{◌⊗◌, ring3, mul_zero, zero_mul}
 use Rattle.ff_theory.proofs.Poly.{Poly_ext, polynomial_laws}
 use Rattle.ff_theory.proofs.Division.{const_mul_at, x}
@@ -14,7 +15,8 @@ use Rattle.ff_theory.proofs.LowestTerms.{ListGcd, list_gcd, cancel}
 use Rattle.ff_theory.proofs.QuotientUnits.{unit_poly}
 use Rattle.ff_theory.proofs.Algebra.{planes, Plane}
 use Rattle.ff_theory.proofs.ElementEuclid.{row_size, plane_size-mul, empty_plane, zero_plane_size}
-use Rattle.ff_factors.proofs.Divides.{divides_zero, divides_left, divides_trans, divides_all}
+use Rattle.ff_theory.proofs.Divides.{divides_zero, divides_left, divides_trans}
+use Rattle.ff_factors.proofs.Divides.{divides_all}
 use Rattle.ff_factors.proofs.Gauss.{one_divisor, gauss}
 
 module _ (K : Field) where

@@ -5,7 +5,8 @@ use Rattle.ff_theory.specs.Ring.{RingOps, IsCommRing}
 use Rattle.ff_theory.specs.Lawful.{Domain, Field}
 use Rattle.ff_theory.specs.Poly.{Poly, polynomials}
 use Rattle.ff_theory.specs.Division.{size}
-use Rattle.ff_factors.specs.Factors.{Divides, IsContentFree, IsPrimitive, IsFactored, IsDivisorOver, times_row}
+use Rattle.ff_theory.specs.Divides.{Divides}
+use Rattle.ff_factors.specs.Factors.{IsContentFree, IsPrimitive, IsFactored, IsDivisorOver, times_row}
 use Rattle.ff_theory.proofs.Solver.{◌⊗◌, unit, ring1, ring2, ring3, ring4}
 use Rattle.ff_theory.proofs.Transfer.{IsMap}
 use Rattle.ff_theory.proofs.Poly.{polynomial_laws}

@@ -5,7 +5,8 @@ use Rattle.ff_theory.specs.Ring.{RingOps, IsCommRing}
 use Rattle.ff_theory.specs.Lawful.{Domain, Field}
 use Rattle.ff_theory.specs.Poly.{coeff, Poly, polynomials}
 use Rattle.ff_theory.specs.Division.{size}
-use Rattle.ff_factors.specs.Factors.{Divides, DividesAll, IsContentFree}
+use Rattle.ff_theory.specs.Divides.{Divides}
+use Rattle.ff_factors.specs.Factors.{DividesAll, IsContentFree}
 use Rattle.ff_theory.proofs.Solver.{◌⊕◌, ◌⊗◌, unit, ring1, ring6, mul_zero, zero_mul}
 use Rattle.ff_theory.proofs.Poly.{polynomial_laws}
 use Rattle.ff_theory.proofs.Division.{mul_at, size-mul}
@@ -13,7 +14,8 @@ use Rattle.ff_theory.proofs.Gcd.{Bezout, bezout, no_size}
 use Rattle.ff_theory.proofs.PolyMap.{zero_size, one_size, polynomial_domain}
 use Rattle.ff_theory.proofs.QuotientUnits.{unit_poly}
 use Rattle.ff_theory.proofs.Algebra.{planes, Plane}
-use Rattle.ff_factors.proofs.Divides.{divides_self, divides_add, divides_left, divides_trans, divides_coprime, divides_corner, divides_all}
+use Rattle.ff_theory.proofs.Divides.{divides_self, divides_add, divides_left, divides_trans, divides_coprime}
+use Rattle.ff_factors.proofs.Divides.{divides_corner, divides_all}
 
 module _ (K : Field) where
   abbrev P : Type 0

@@ -4,7 +4,8 @@ use Rattle.ff_theory.specs.Ring.{RingOps, IsCommRing}
 use Rattle.ff_theory.specs.Lawful.{Domain, Field}
 use Rattle.ff_theory.specs.Poly.{Poly, polynomials}
 use Rattle.ff_theory.specs.Division.{size}
-use Rattle.ff_factors.specs.Factors.{Divides, IsFactored, AreCoprime}
+use Rattle.ff_theory.specs.Divides.{Divides}
+use Rattle.ff_factors.specs.Factors.{IsFactored, AreCoprime}
 use Rattle.ff_theory.proofs.Solver.{◌⊕◌, ◌⊗◌, neg, nil, unit, ring2, ring3, ring4, ring6, mul_zero}
 use Rattle.ff_theory.proofs.Poly.{polynomial_laws}
 use Rattle.ff_theory.proofs.Gcd.{Bezout, bezout, no_size}

@@ -5,7 +5,8 @@ use Rattle.ff_theory.specs.Ring.{IsCommRing}
 use Rattle.ff_theory.specs.Lawful.{Domain, Field}
 use Rattle.ff_theory.specs.Poly.{coeff, Poly, poly, polynomials}
 use Rattle.ff_theory.specs.Division.{size}
-use Rattle.ff_factors.specs.Factors.{Divides, leading_coeff, IsContentFree, IsNormalised, IsPrimitive, times_row}
+use Rattle.ff_theory.specs.Divides.{Divides}
+use Rattle.ff_factors.specs.Factors.{leading_coeff, IsContentFree, IsNormalised, IsPrimitive, times_row}
 use Rattle.ff_theory.proofs.Solver.{◌⊗◌, ring3, ring4, zero_mul}
 use Rattle.ff_theory.proofs.Poly.{Poly_ext, Poly_path, trim-coeff, polynomial_laws}
 use Rattle.ff_theory.proofs.Division.{zero_from, size_le, top_nonzero}

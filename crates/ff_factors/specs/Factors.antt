@@ -3,10 +3,7 @@ use Rattle.std.specs.Prelude.{◌≡◌, ℕ, ◌<◌, ◌≤◌, false, pred, [
 use Rattle.ff_theory.specs.Ring.{RingOps}
 use Rattle.ff_theory.specs.Poly.{coeff, Poly, poly, polynomials}
 use Rattle.ff_theory.specs.Division.{size}
-
--- d divides a
-abbrev pub Divides : (R : RingOps) → R.carrier → R.carrier → Type 0
-Divides R d a = (q : R.carrier) × (a ≡ R.mul q d)
+use Rattle.ff_theory.specs.Divides.{Divides}
 
 -- d divides each coefficient of g
 abbrev pub DividesAll : (R : RingOps) → R.carrier → Poly R → Type 0

@@ -15,7 +15,8 @@ use Rattle.ff_theory.proofs.LowestTerms.{cancel}
 use Rattle.ff_theory.proofs.Element.{IsLowest}
 use Rattle.ff_poly.specs.Words.{poly_of, IsPoly}
 use Rattle.ff_poly.specs.Monomial.{monomial}
-use Rattle.ff_poly.specs.Divisors.{leading, Divides, polys_of, products_with, IsGcdOfAll}
+use Rattle.ff_theory.specs.Divides.{Divides}
+use Rattle.ff_poly.specs.Divisors.{leading, polys_of, products_with, IsGcdOfAll}
 use Rattle.ff_poly.proofs.Product.{poly-coeff}
 use Rattle.ff_poly.proofs.LongDivision.{poly-size}
 use Rattle.ff_poly.proofs.Gcd.{gcds-unit}

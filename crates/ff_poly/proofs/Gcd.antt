@@ -3,12 +3,11 @@ use Rattle.std.proofs.lemmas.Bool.{cases_lt}
 use Rattle.ff_theory.specs.Ring.{RingOps, IsCommRing}
 use Rattle.ff_theory.specs.Poly.{coeff}
 use Rattle.ff_theory.proofs.Solver.{◌⊕◌, ◌⊗◌, neg, nil, unit, ring1, ring3, ring4}
-use Rattle.ff_poly.specs.Divisors.{Divides, IsGcd, IsGcdOfAll}
+use Rattle.ff_theory.specs.Divides.{Divides}
+use Rattle.ff_theory.proofs.Divides.{divides_trans}
+use Rattle.ff_poly.specs.Divisors.{IsGcd, IsGcdOfAll}
 
 module _ (R : RingOps) (laws : IsCommRing R) where
-  pub divides_trans : (d e a : R.carrier) → Divides R d e → Divides R e a → Divides R d a
-  divides_trans d e a h k = (R.mul k.0 h.0, k.1 ∙ ap (R.mul k.0) h.1 ∙ sym (laws.mul_assoc k.0 h.0 d))
-
   -- Euclid's algorithm
   pub gcd-zero : (a b : R.carrier) → b ≡ R.zero → IsGcd R a b a
   gcd-zero a b e = record { of_first = (R.one, ring1 R laws (λ a. a) (λ a. unit ⊗ a) refl a); of_second = (R.zero, e ∙ ring1 R laws (λ a. nil) (λ a. nil ⊗ a) refl a); greatest = λ d h k. h }
@@ -30,10 +29,10 @@ module _ (R : RingOps) (laws : IsCommRing R) where
     back = ring1 R laws (λ g. g) (λ g. unit ⊗ g) refl g ∙ ap (λ t. R.mul t g) (sym one) ∙ laws.mul_assoc w u g ∙ ap (R.mul w) (sym e)
 
     divisor : (a : R.carrier) → Divides R g a → Divides R h a
-    divisor a k = divides_trans h g a (w, back) k
+    divisor a k = divides_trans R laws h g a (w, back) k
 
     multiple : (d : R.carrier) → Divides R d g → Divides R d h
-    multiple d k = divides_trans d g h k (u, e)
+    multiple d k = divides_trans R laws d g h k (u, e)
 
     pub gcd-unit : (a b : R.carrier) → IsGcd R a b g → IsGcd R a b h
     gcd-unit a b k = record { of_first = divisor a k.of_first; of_second = divisor b k.of_second; greatest = λ d m n. multiple d (k.greatest d m n) }
@@ -48,13 +47,13 @@ module _ (R : RingOps) (laws : IsCommRing R) where
 
     pub gcds-step : (n m : ℕ) (g h : R.carrier) → m ≡ suc n → IsGcdOfAll R a f n g → IsGcd R g (coeff R f n) h → IsGcdOfAll R a f m h
     gcds-step n m g h e k s = record {
-      of_first = divides_trans h g a s.of_first k.of_first;
+      of_first = divides_trans R laws h g a s.of_first k.of_first;
       of_each = λ i l. each i l (cases_lt i n);
       greatest = λ d u v. s.greatest d (k.greatest d u (λ i l. v i (omega arith))) (v n (omega arith));
     }
       where
         each : (i : ℕ) → i < m → (i < n) ⊎ (n ≤ i) → Divides R h (coeff R f i)
-        each i l (inl b) = divides_trans h g (coeff R f i) s.of_first (k.of_each i b)
+        each i l (inl b) = divides_trans R laws h g (coeff R f i) s.of_first (k.of_each i b)
         each i l (inr b) = let q : n ≡ i = omega arith in subst (λ j. Divides R h (coeff R f j)) q s.of_second
 
     -- a unit divides all that follow

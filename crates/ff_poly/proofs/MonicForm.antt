@@ -7,7 +7,7 @@ use Rattle.ff_theory.specs.Division.{size}
 use Rattle.ff_theory.proofs.Solver.{zero_mul}
 use Rattle.ff_theory.proofs.Poly.{trim_same, polynomial_laws, polynomial_tests}
 use Rattle.ff_theory.proofs.Coeffs.{coeff-past, poly_ext}
-use Rattle.ff_theory.proofs.Division.{size-mul}
+use Rattle.ff_theory.proofs.Division.{size-mul, coeff-beyond}
 use Rattle.ff_theory.proofs.Gcd.{no_size}
 use Rattle.ff_theory.proofs.PolyMap.{same_false}
 use Rattle.ff_poly.specs.Words.{poly_of, plane_of, IsPoly, IsPlane, x_size}
@@ -98,11 +98,6 @@ module _ (R : RingOps) where
       cons x (y ∷ q) k m = k
 
 module _ (R : RingOps) (laws : IsCommRing R) (tests : IsTested R) where
-  past : (p : List R.carrier) (i : ℕ) → length p ≤ i → coeff R p i ≡ R.zero
-  past [] i h = refl
-  past (c ∷ p) zero h = absurd (omega arith)
-  past (c ∷ p) (suc i) h = past p i (omega arith)
-
   -- rows that a loop computed
   pub monic_by_loop : {A : Type 0} (f : A → R.carrier) (p q : List A) (t : R.carrier) (n : ℕ) → length p ≡ suc n → length q ≡ suc n → IsTrue (ends_in_nonzero R (map f p)) → t ≡ coeff R (map f p) n
       → ((i : ℕ) → i < n → coeff R (map f q) i ≡ R.mul (coeff R (map f p) i) (power R t (n - 1 - i))) → coeff R (map f q) n ≡ R.one
@@ -124,7 +119,7 @@ module _ (R : RingOps) (laws : IsCommRing R) (tests : IsTested R) where
       all i (inr l) = go (cases_lt n i)
         where
           go : (n < i) ⊎ (i ≤ n) → coeff R (map f q) i ≡ coeff R (monic_rows R t (map f p)) i
-          go (inl m) = coeff-past R f q i (omega arith) ∙ sym (past (monic_rows R t (map f p)) i (omega (arith, rows, size)))
+          go (inl m) = coeff-past R f q i (omega arith) ∙ sym (coeff-beyond R laws tests (monic_rows R t (map f p)) i (omega (arith, rows, size)))
           go (inr m) = let e : i ≡ n = omega arith in ap (coeff R (map f q)) e ∙ last ∙ sym (monic-last R t (map f p) n (size ∙ lp)) ∙ ap (coeff R (monic_rows R t (map f p))) (sym e)
 
   -- the coefficients of a monic form

@@ -19,7 +19,7 @@ module _ (R : RingOps) where
   raised-at (suc n) p i zero e = absurd (omega arith)
   raised-at (suc n) p i (suc m) e = raised-at n p i m (omega arith)
 
-  raised-past : (n : ℕ) (p : List R.carrier) (i : ℕ) → n + length p ≤ i → coeff R (raised R n p) i ≡ R.zero
+  pub raised-past : (n : ℕ) (p : List R.carrier) (i : ℕ) → n + length p ≤ i → coeff R (raised R n p) i ≡ R.zero
   raised-past zero [] i l = refl
   raised-past zero (c ∷ p) zero l = absurd (omega arith)
   raised-past zero (c ∷ p) (suc i) l = raised-past zero p i (omega arith)

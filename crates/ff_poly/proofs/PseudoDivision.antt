@@ -10,7 +10,7 @@ use Rattle.ff_theory.proofs.Poly.{polynomial_laws, polynomial_tests, scale-coeff
 use Rattle.ff_theory.proofs.Coeffs.{coeff-past, add_by_coeffs}
 use Rattle.ff_poly.specs.Words.{poly_of, IsPoly, IsPlane, row_of, IsPseudoDivision}
 use Rattle.ff_poly.specs.Monomial.{raised, monomial}
-use Rattle.ff_poly.proofs.Monomial.{monomial-mul, raised-at, raised-below}
+use Rattle.ff_poly.proofs.Monomial.{monomial-mul, raised-at, raised-below, raised-past}
 use Rattle.ff_poly.proofs.LongDivision.{last_nonzero, poly-size}
 use Rattle.ff_poly.proofs.Rows.{row-value, row-each}
 use Rattle.ff_poly.proofs.Negative.{neg_by_coeffs, neg-zero}
@@ -63,14 +63,6 @@ module _ (R : RingOps) (laws : IsCommRing R) (tests : IsTested R) where
   raised-scale (suc n) c p zero = sym (mul_zero R laws c)
   raised-scale (suc n) c p (suc i) = raised-scale n c p i
 
-  raised-past : (n : ℕ) (p : List R.carrier) (i : ℕ) → n + length p ≤ i → coeff R (raised R n p) i ≡ R.zero
-  raised-past n p i l = raised-at R n p (i - n) i (omega arith) ∙ past p (i - n) (omega arith)
-    where
-      past : (p : List R.carrier) (i : ℕ) → length p ≤ i → coeff R p i ≡ R.zero
-      past [] i h = refl
-      past (c ∷ p) zero h = absurd (omega arith)
-      past (c ∷ p) (suc i) h = past p i (omega arith)
-
   -- lists whose combination a loop computed, all but the last coefficient, which cancels
   pub lower_by_loop : {A : Type 0} (f : A → R.carrier) (c t : R.carrier) (a b r : List A) (n at : ℕ) (d : A) → length a ≡ suc n → suc n ≡ at + length b → 0 < length b → length r ≡ n
       → ((i : ℕ) → i < n → coeff R (map f r) i ≡ R.add (R.mul c (coeff R (map f a) i)) (R.mul t (coeff R (raised R at (map f b)) i)))
@@ -94,7 +86,7 @@ module _ (R : RingOps) (laws : IsCommRing R) (tests : IsTested R) where
       all i (inr l) = coeff-past R f r i (omega arith) ∙ sym (go (cases_lt n i))
         where
           go : (n < i) ⊎ (i ≤ n) → R.add (R.mul c (coeff R (map f a) i)) (R.mul t (coeff R (raised R at (map f b)) i)) ≡ R.zero
-          go (inl m) = ap₂ (λ x y. R.add (R.mul c x) (R.mul t y)) (coeff-past R f a i (omega arith)) (raised-past at (map f b) i (omega (arith, size_b))) ∙ none
+          go (inl m) = ap₂ (λ x y. R.add (R.mul c x) (R.mul t y)) (coeff-past R f a i (omega arith)) (raised-past R at (map f b) i (omega (arith, size_b))) ∙ none
           go (inr m) = let e : i ≡ n = omega arith in ap (λ i. R.add (R.mul c (coeff R (map f a) i)) (R.mul t (coeff R (raised R at (map f b)) i))) e ∙ ap (λ x. R.add (R.mul c (coeff R (map f a) n)) (R.mul t x)) last ∙ top
 
   PL : IsCommRing (polynomials R)

@@ -1,4 +1,6 @@
+-- Polynomials over small values are themselves small.
 use Rattle.std.proofs.Common.{ℕ, ◌+◌, ◌-◌, ◌*◌, ◌%◌, ◌<◌, ◌≤◌, max, sym, subst, arith, lit≤}
+use Rattle.std.proofs.lemmas.Nat.{mod_below}
 use Rattle.std.specs.Mem.{type_size, FitsInMemory}
 use Rattle.ff_poly.specs.contracts.poly.Poly.{the_row}
 use denote.RattleType.{RattleType}
@@ -7,7 +9,6 @@ use prog.Memory.{align, size, up}
 use prog.Align.{align-bytes, align_w, align_pos}
 use mir.Syntax.{Ty, Width, w8, w16, w32, w64, w128}
 use mir.Val.{bytes}
-use Rattle.std.proofs.lemmas.Nat.{mod_below}
 
 bytes-le : (w : Width) → bytes w ≤ 16
 bytes-le w8 = lit≤ tt
@@ -16,23 +17,27 @@ bytes-le w32 = lit≤ tt
 bytes-le w64 = lit≤ tt
 bytes-le w128 = lit≤ tt
 
-align-le : (τ : Ty) → align τ ≤ 16
+pub align-le : (τ : Ty) → align τ ≤ 16
 align-le τ = subst (λ (n : ℕ). n ≤ 16) (sym (align-bytes τ)) (bytes-le (align_w τ))
 
--- rounded up to a multiple of an alignment
-up-le : (k e m : ℕ) → 0 < k → k ≤ 16 → e ≤ m → up k e ≤ m + 16
+-- f rounds up to a multiple of an alignment, at most by 16
+abbrev pub Rounds : (ℕ → ℕ → ℕ) → Type 0
+Rounds f = (k e m : ℕ) → 0 < k → k ≤ 16 → e ≤ m → f k e ≤ m + 16
+
+pub up-le : Rounds up
 up-le k e m pos small h = let l : (k - e % k) % k < k = mod_below (k - e % k) k pos in omega (arith, l, small, h)
 
--- the layout of eight places beside two words
-layout-lt : (f : ℕ → ℕ → ℕ) → ((k e m : ℕ) → 0 < k → k ≤ 16 → e ≤ m → f k e ≤ m + 16) → (a s : ℕ) → 0 < a → a ≤ 16 → s ≤ 16
-    → f (max (max (max (max (max (max a 1) 8) 1) 8) 1) 1)
+-- the size of eight places beside two words, where values have the alignment a and the size s
+abbrev pub poly_layout : (ℕ → ℕ → ℕ) → ℕ → ℕ → ℕ
+poly_layout f a s = f (max (max (max (max (max (max a 1) 8) 1) 8) 1) 1)
     (f (max (max (max (max (max a 1) 8) 1) 8) 1) 0
     + f (max (max (max (max (max a 1) 8) 1) 8) 1)
     (f (max (max (max (max a 1) 8) 1) 8) 0
     + f (max (max (max (max a 1) 8) 1) 8)
     (max (f (max (max a 1) 8) 1 + f (max (max a 1) 8) (f 1 (f 8 (f (max a 1) 0 + f (max a 1) (f a 0 + 8 * s)) + 8) + 0)) 32)))
-    < 9223372036854775808
-layout-lt f up a s pos small fits =
+
+pub poly_layout-le : (f : ℕ → ℕ → ℕ) → Rounds f → (a s : ℕ) → 0 < a → a ≤ 16 → s ≤ 16 → poly_layout f a s ≤ 516
+poly_layout-le f up a s pos small fits =
     let k1 = max a 1 in
     let k2 = max k1 8 in
     let k3 = max (max k2 1) 8 in
@@ -57,6 +62,9 @@ layout-lt f up a s pos small fits =
     let u12 = up k5 x11 500 (omega arith) (omega arith) (omega arith) in
     omega (arith, u12)
 
+poly-lt : (f : ℕ → ℕ → ℕ) → Rounds f → (a s : ℕ) → 0 < a → a ≤ 16 → s ≤ 16 → poly_layout f a s < 9223372036854775808
+poly-lt f up a s pos small fits = omega (arith, poly_layout-le f up a s pos small fits)
+
 -- a polynomial over small values is itself small
 pub poly_fits : (R : RattleType) → type_size R ≤ 16 → FitsInMemory (the_row R)
-poly_fits R h = layout-lt up up-le (align (lone R.mir)) (size (lone R.mir)) (align_pos (lone R.mir)) (align-le (lone R.mir)) h
+poly_fits R h = poly-lt up up-le (align (lone R.mir)) (size (lone R.mir)) (align_pos (lone R.mir)) (align-le (lone R.mir)) h

@@ -1,15 +1,12 @@
 use Rattle.std.specs.Prelude.{◌≡◌, ℕ, ◌<◌, ◌-◌, List, length, map}
 use Rattle.ff_theory.specs.Ring.{RingOps, Elements}
 use Rattle.ff_theory.specs.Poly.{coeff, Poly, polynomials}
+use Rattle.ff_theory.specs.Divides.{Divides}
 use Rattle.ff_poly.specs.Words.{poly_of}
 
 -- the leading coefficient, 0 for the polynomial 0
 abbrev pub leading : {E : Type 0} → (K : Elements E) → List E → K.carrier
 leading K p = coeff K.ring (map K.value p) (length p - 1)
-
--- d divides a
-abbrev pub Divides : (R : RingOps) → R.carrier → R.carrier → Type 0
-Divides R d a = (q : R.carrier) × (a ≡ R.mul q d)
 
 -- g divides a and b, and what divides both divides g
 pub record IsGcd (R : RingOps) (a b g : R.carrier) : Type 0 where

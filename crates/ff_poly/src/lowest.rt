@@ -5,7 +5,8 @@ ghost use Rattle.ff_theory.specs.Lawful.{lawful_field};
 ghost use Rattle.ff_theory.specs.Poly.{coeff};
 ghost use Rattle.ff_theory.proofs.Element.{IsLowest};
 ghost use Rattle.ff_poly.specs.Words.{poly_of, IsPoly, polys_over};
-ghost use Rattle.ff_poly.specs.Divisors.{leading, Divides, polys_of, products_with, IsGcdOfAll};
+ghost use Rattle.ff_poly.specs.Divisors.{leading, polys_of, products_with, IsGcdOfAll};
+ghost use Rattle.ff_theory.specs.Divides.{Divides};
 
 use crate::Poly;
 use crate::divisors::common_divisor;

@@ -3,6 +3,7 @@ use Rattle.std.proofs.Common.{◌≡◌, ℕ, suc, ◌+◌, ◌-◌, ◌*◌, �
 use Rattle.std.specs.Option.{option_map}
 use Rattle.std.proofs.lemmas.Bool.{ltb-true, eqb-true}
 use Rattle.std.proofs.lemmas.List.{nil_from_length}
+use Rattle.ff_theory.proofs.Booleans.{both}
 use Rattle.ff_text.specs.declared.symbol.Sign.{Sign}
 use Rattle.ff_text.specs.declared.symbol.Variable.{Variable}
 use Rattle.ff_text.specs.declared.symbol.Variable.TheVariants.{X, Y}
@@ -360,10 +361,6 @@ module _ (s : List Symbol) where
   back AfterSlash S S' σ e h = at_after_slash S S' σ e h
 
 -- ---- The end of the text
-
-both : (a b : Bool) → (a && b) ≡ true → (a ≡ true) × (b ≡ true)
-both true b e = (refl, e)
-both false b e = absurd cc
 
 is_chosen : (b : Bool) (S end : State) → cond b (Some S) None ≡ Some end → b ≡ true
 is_chosen true S end e = refl

@@ -5,6 +5,7 @@ use Rattle.std.proofs.lemmas.List.{length-take, length-drop, get_or-take, get_or
 use Rattle.std.proofs.lemmas.List.Quantifiers.{position-Some}
 use Rattle.std.proofs.lemmas.Bool.{ltb-true, ltb-false}
 use Rattle.std.proofs.lemmas.List.Sums.{fails_before_first}
+use Rattle.ff_theory.proofs.Booleans.{differ}
 use Rattle.ff_text.specs.declared.fault.TextFault.{TextFault}
 use Rattle.ff_text.specs.declared.fault.TextFault.TheVariants as fault
 use Rattle.ff_text.specs.declared.sums.Ratio.{Ratio}
@@ -26,9 +27,6 @@ Finds rs fault.NoMemory = ⊥
 some_item : (rs : List Ratio) → 0 < length rs → Ratio
 some_item [] h = absurd (omega arith)
 some_item (r ∷ rs) h = r
-
-contradiction : {A : Type 0} (b : Bool) → b ≡ true → b ≡ false → A
-contradiction b e f = absurd cc
 
 position-None : (t : Ratio → Bool) (xs : List Ratio) → position t xs ≡ None → (k : ℕ) (d : Ratio) → k < length xs → t (get_or xs k d) ≡ false
 position-None t xs e k d lt = go (ltb (position_or_len t xs) (length xs)) refl e
@@ -59,7 +57,7 @@ module _ (t : Ratio → Bool) (rs : List Ratio) where
         two,
         (i, refl, l, λ d. sym (ap t (at_equation i d two l).1) ∙ (here d).1),
         λ w le a. let d = some_item rs (omega (arith, l)) in
-            contradiction (t (get_or rs a.0 d)) (a.3 d)
+            differ (t (get_or rs a.0 d)) (a.3 d)
             (ap t (sym (at_equation a.0 d (omega (arith, a.1)) a.2).1) ∙ (here d).2 a.0 (omega (arith, a.1))),
       )
     where
@@ -74,7 +72,7 @@ module _ (t : Ratio → Bool) (rs : List Ratio) where
   not_in_equations e w le a =
       let d = some_item rs (omega (arith, a.2)) in
       let q = at_equation a.0 d (omega (arith, a.1)) a.2 in
-      contradiction (t (get_or rs a.0 d)) (a.3 d) (ap t (sym q.1) ∙ position-None t (equations rs) e a.0 d q.0)
+      differ (t (get_or rs a.0 d)) (a.3 d) (ap t (sym q.1) ∙ position-None t (equations rs) e a.0 d q.0)
 
   in_elements : (i : ℕ) → position t (elements rs) ≡ Some i → IsAt t rs (i + 3) × ((w : ℕ) → 3 ≤ w → w < i + 3 → IsAt t rs w → ⊥)
   in_elements i e =
@@ -86,7 +84,7 @@ module _ (t : Ratio → Bool) (rs : List Ratio) where
         λ w ge le a. let d = some_item rs (omega (arith, l)) in
             let k : (a.0 - 2) + 2 ≡ a.0 = omega (arith, a.1) in
             let q = at_element (a.0 - 2) d (omega (arith, a.1, a.2)) in
-            contradiction (t (get_or rs a.0 d)) (a.3 d)
+            differ (t (get_or rs a.0 d)) (a.3 d)
             (ap (λ m. t (get_or rs m d)) (sym k) ∙ ap t (sym q.1) ∙ (here d).2 (a.0 - 2) (omega (arith, a.1))),
       )
     where
@@ -102,7 +100,7 @@ module _ (t : Ratio → Bool) (rs : List Ratio) where
       let d = some_item rs (omega (arith, a.2)) in
       let k : (a.0 - 2) + 2 ≡ a.0 = omega (arith, a.1) in
       let q = at_element (a.0 - 2) d (omega (arith, a.1, a.2)) in
-      contradiction (t (get_or rs a.0 d)) (a.3 d) (ap (λ m. t (get_or rs m d)) (sym k) ∙ ap t (sym q.1) ∙ position-None t (elements rs) e (a.0 - 2) d q.0)
+      differ (t (get_or rs a.0 d)) (a.3 d) (ap (λ m. t (get_or rs m d)) (sym k) ∙ ap t (sym q.1) ∙ position-None t (elements rs) e (a.0 - 2) d q.0)
 
 -- ---- The four searches, one after another
 

@@ -3,11 +3,12 @@ use Rattle.std.proofs.Common.{◌≡◌, ℕ, ◌+◌, ◌-◌, ◌*◌, ◌<◌
 use Rattle.std.specs.List.{list_any, Any}
 use Rattle.std.proofs.lemmas.List.Folds.{Any-from_list_any, list_any-from_Any}
 use Rattle.std.proofs.lemmas.Bool.{ltb-true, lt-ltb, eqb-true, cases_lt}
+use Rattle.ff_theory.proofs.Booleans.{both}
 use Rattle.ff_text.specs.declared.reader.Monomial.{Monomial}
 use Rattle.ff_text.specs.Sums.{total, HasPowers, IsCollected}
 use Rattle.ff_text.specs.Limits.{has_y, passes, raises, monic_passes, top}
 use Rattle.ff_text.specs.Values.{Occurs, HasY, IsZero, IsAbove, IsLeading, IsMonicAbove}
-use Rattle.ff_text.proofs.Leading.{IsUnder, top_above, top_within, both, either}
+use Rattle.ff_text.proofs.Leading.{IsUnder, top_above, top_within, either}
 use Rattle.ff_text.proofs.Totals.{none}
 
 -- a test that is true exactly where P holds

@@ -3,6 +3,7 @@ use Rattle.std.proofs.Common.{◌≡◌, ℕ, zero, suc, ◌+◌, ◌-◌, ◌<�
 use Rattle.std.specs.List.{All}
 use Rattle.std.proofs.lemmas.List.{take_all}
 use Rattle.std.proofs.lemmas.Bool.{ltb-true, ltb-false, eqb-true, eqb-false, cases_eq}
+use Rattle.ff_theory.proofs.Booleans.{both}
 use Rattle.ff_text.specs.declared.reader.Monomial.{Monomial}
 use Rattle.ff_text.specs.Limits.{passes, is_above, higher, top}
 
@@ -54,10 +55,6 @@ IsUnder-trans t u m (inl h) (inl k) = inl (omega arith)
 IsUnder-trans t u m (inl h) (inr k) = inl (omega (arith, k.0))
 IsUnder-trans t u m (inr h) (inl k) = inl (omega (arith, h.0))
 IsUnder-trans t u m (inr h) (inr k) = inr (omega (arith, h.0, k.0), omega (arith, h.1, k.1))
-
-pub both : (a b : Bool) → (a && b) ≡ true → (a ≡ true) × (b ≡ true)
-both true b e = (refl, e)
-both false b e = absurd cc
 
 pub either : (a b : Bool) → (a || b) ≡ true → (a ≡ true) ⊎ (b ≡ true)
 either true b e = inl refl

@@ -13,6 +13,7 @@ use Rattle.std.specs.BTreeMap.{get, is_at}
 use Rattle.std.proofs.lemmas.Bool.{eqb-true, ltb-true, cases_lt}
 use Rattle.std.proofs.lemmas.List.Sums.{sum_by_more, sum_by-cons}
 use Rattle.std.proofs.Math.Nat.{mod-add-mod, zero-mod}
+use Rattle.ff_theory.proofs.Booleans.{both}
 use Rattle.ff_text.specs.declared.reader.Monomial.{Monomial}
 use Rattle.ff_text.specs.Sums.{share, total, HasPowers, IsCollected, powers_cmp}
 
@@ -32,10 +33,6 @@ powers_same a b i j = then_same (nat_cmp a i) (nat_cmp b j) ∙ ap (λ t. t && i
     then_same Less q = refl
     then_same Equal q = refl
     then_same Greater q = refl
-
-both : (a b : Bool) → (a && b) ≡ true → (a ≡ true) × (b ≡ true)
-both true b e = (refl, e)
-both false b e = absurd cc
 
 -- one term more
 total_more : (p : ℕ) (ms : List Monomial) (k : ℕ) (d : Monomial) (i j so_far : ℕ) → k < length ms → so_far ≡ total p (take k ms) i j

@@ -12,10 +12,11 @@ use mathlib.Core.Path.{fun_ext}
 use Rattle.ff_theory.specs.Eval.{eval, plane_at}
 use Rattle.ff_theory.proofs.Division.{const, x}
 use Rattle.ff_theory.proofs.Evaluate.{is_eval, const_map}
-use Rattle.ff_theory.proofs.FractionField.{differ}
+use Rattle.ff_theory.proofs.Booleans.{differ}
 use Rattle.ff_theory.proofs.Quotient.{Class}
 use Rattle.ff_theory.proofs.Algebra.{rational, planes, Plane, fraction_of, row, fconst, algebra, algebra_class, algebra_laws, algebra_tests, plane_value, plane_value_map, equation_zero, DividesOver, zero_if_divides}
-use Rattle.ff_theory.proofs.LowestTerms.{Reduced, Divides, leading, den_nonzero}
+use Rattle.ff_theory.specs.Divides.{Divides}
+use Rattle.ff_theory.proofs.LowestTerms.{Reduced, leading, den_nonzero}
 use Rattle.ff_theory.proofs.ReducedForms.{reduced_class, reduced_one, reduced_of}
 use Rattle.ff_theory.proofs.AlgebraParts.{reduced_clear, row_unit, row_cancel, from_parts_value}
 
@@ -57,7 +58,7 @@ module _ (K : Field) where
   pub record IsLowest (n : ℕ) (den : Poly K.ring) (nums : List (Poly K.ring)) : Type 0 where
     pub monic : IsTrue (K.same (leading K den) K.one)
     pub count : IsTrue (eqb (length nums) n)
-    pub lowest : (d : Poly K.ring) → Divides K d den → ((i : ℕ) → i < n → Divides K d (coeff (polynomials K.ring) nums i)) → IsTrue (nat_lt (size K.ring d) 2)
+    pub lowest : (d : Poly K.ring) → Divides (polynomials K.ring) d den → ((i : ℕ) → i < n → Divides (polynomials K.ring) d (coeff (polynomials K.ring) nums i)) → IsTrue (nat_lt (size K.ring d) 2)
 
   kept : (n : ℕ) (den : Poly K.ring) (nums : List (Poly K.ring)) → IsLowest n den nums → Reduced K n
   kept n den nums h = record { den = den; nums = nums; monic = h.monic; count = h.count; lowest = h.lowest }

@@ -10,7 +10,8 @@ use Rattle.ff_theory.proofs.FractionField.{Frac}
 use Rattle.ff_theory.proofs.PolyMap.{polynomial_domain}
 use Rattle.ff_theory.proofs.Quotient.{Class}
 use Rattle.ff_theory.proofs.Algebra.{rational}
-use Rattle.ff_theory.proofs.LowestTerms.{Reduced, Divides, den_nonzero, leading}
+use Rattle.ff_theory.specs.Divides.{Divides}
+use Rattle.ff_theory.proofs.LowestTerms.{Reduced, den_nonzero, leading}
 use Rattle.ff_theory.proofs.ReducedForms.{over, reduced_class, reduced_at, reduced_of}
 
 -- the numerator and the denominator of a fraction in lowest terms
@@ -48,10 +49,10 @@ module _ (K : Field) where
   unfolding denominator
   denominator_monic a = (form a).monic
 
-  pub fraction_lowest : (a : Frac (polynomial_domain K)) (d : Poly K.ring) → Divides K d (denominator a) → Divides K d (numerator a) → IsTrue (nat_lt (size K.ring d) 2)
+  pub fraction_lowest : (a : Frac (polynomial_domain K)) (d : Poly K.ring) → Divides (polynomials K.ring) d (denominator a) → Divides (polynomials K.ring) d (numerator a) → IsTrue (nat_lt (size K.ring d) 2)
   unfolding denominator numerator
   fraction_lowest a d h k = (form a).lowest d h (λ i l. let e : 0 ≡ i = omega arith in go i e)
     where
-      go : (i : ℕ) → 0 ≡ i → Divides K d (coeff (polynomials K.ring) (form a).nums i)
+      go : (i : ℕ) → 0 ≡ i → Divides (polynomials K.ring) d (coeff (polynomials K.ring) (form a).nums i)
       go zero e = k
       go (suc i) e = absurd (omega arith)

@@ -13,6 +13,7 @@ use Rattle.ff_theory.proofs.Quotient.{Class}
 use Rattle.ff_theory.proofs.QuotientUnits.{IsIrreducible, one_not_zero, inverse_or_divisor, inverse_if_irreducible, residues_of, residue_laws, class_differ, residue_map}
 use Rattle.ff_theory.proofs.Algebra.{rational, planes, Plane, fraction_of, embed, embed_map, embed_one, embed_size, embed_row, row, fconst, Common, common_plane, algebra, plane_value, DividesOver}
 use Rattle.ff_theory.proofs.ReducedForms.{common_of}
+use Rattle.ff_theory.proofs.ElementEuclid.{row_size}
 use Rattle.ff_theory.proofs.Evaluate.{const_map}
 
 -- classes modulo a polynomial over a field: inverses, with 0 where there is none
@@ -72,16 +73,12 @@ module _ (K : Field) (f : Plane K) (n : ℕ) (has : size (polynomials K.ring) f 
   NoFactors = (c : Poly K.ring) (g h : Plane K) → (polynomials K.ring).same c (polynomials K.ring).zero ≡ false → (planes K).mul (row K c) f ≡ (planes K).mul h g
       → (size (polynomials K.ring) g ≤ 1) ⊎ (size (polynomials K.ring) h ≤ 1)
 
-  row_size : (c : Poly K.ring) → (polynomials K.ring).same c (polynomials K.ring).zero ≡ false → size (polynomials K.ring) (row K c) ≡ 1
-  unfolding poly
-  row_size c nc = ap (λ b. length (cond b [] (c ∷ []))) nc
-
   -- clearing a denominator does not change the size
   clear_size : (u : Poly F.ring) (c : Common K u.coeffs) → size (polynomials K.ring) (poly (polynomials K.ring) c.nums) ≡ size F.ring u
   clear_size u c = sym (embed_size K (poly (polynomials K.ring) c.nums)) ∙ ap (size F.ring) (sym (common_plane K u c)) ∙ go (size F.ring u) refl
     where
       const_one : size F.ring (fconst K (fraction_of K c.den)) ≡ 1
-      const_one = ap (size F.ring) (sym (embed_row K c.den)) ∙ embed_size K (row K c.den) ∙ row_size c.den c.nonzero
+      const_one = ap (size F.ring) (sym (embed_row K c.den)) ∙ embed_size K (row K c.den) ∙ row_size K c.den c.nonzero
 
       go : (k : ℕ) → size F.ring u ≡ k → size F.ring ((polynomials F.ring).mul (fconst K (fraction_of K c.den)) u) ≡ size F.ring u
       go zero e = ap (λ t. size F.ring ((polynomials F.ring).mul (fconst K (fraction_of K c.den)) t)) (no_size F.ring F.laws F.tests F.inverse F.is_field u e) ∙ ap (size F.ring) (mul_zero (polynomials F.ring) FL (fconst K (fraction_of K c.den))) ∙ zero_size F ∙ sym e

@@ -4,6 +4,11 @@ pub mod RingRules
 pub mod Transfer
 pub mod Powers
 pub mod Frobenius
+pub mod Divides
+-- Lists, truth values and results
+pub mod Booleans
+pub mod Results
+pub mod Lists
 -- Sums and power series
 pub mod Series
 pub mod Sums
@@ -11,7 +16,6 @@ pub mod Linear
 -- Polynomials over a commutative ring
 pub mod Poly
 pub mod Coeffs
-pub mod Lists
 pub mod InPlace
 pub mod Division
 pub mod Evaluate

@@ -7,6 +7,8 @@ use Rattle.ff_theory.specs.Ring.{RingOps, IsCommRing}
 use Rattle.ff_theory.specs.Lawful.{Domain, Field}
 use Rattle.ff_theory.specs.Poly.{coeff, Poly, poly, polynomials}
 use Rattle.ff_theory.specs.Division.{size}
+use Rattle.ff_theory.specs.Divides.{Divides}
+use Rattle.ff_theory.proofs.Divides.{divides_add, divides_left, divides_trans}
 use Rattle.ff_theory.proofs.Solver.{◌⊕◌, ◌⊗◌, neg, unit, ring1, ring3, ring4, ring6, mul_zero, zero_mul, add_cancel}
 use Rattle.ff_theory.proofs.Poly.{Poly_ext, trim-coeff, polynomial_laws}
 use Rattle.ff_theory.proofs.Division.{const, const_mul_at, zero_from, top_nonzero, size-mul}
@@ -42,34 +44,21 @@ module _ (K : Field) where
   PL : IsCommRing (polynomials K.ring)
   PL = polynomial_laws K.ring K.laws K.tests
 
-  -- d divides a
-  abbrev pub Divides : Poly K.ring → Poly K.ring → Type 0
-  Divides d a = (q : Poly K.ring) × (a ≡ (polynomials K.ring).mul q d)
-
-  divides_sum : (d a b : P) → Divides d a → Divides d b → Divides d (R.add a b)
-  divides_sum d a b h k = (R.add h.0 k.0, ap₂ R.add h.1 k.1 ∙ ring3 R PL (λ p q d. p ⊗ d ⊕ q ⊗ d) (λ p q d. (p ⊕ q) ⊗ d) refl h.0 k.0 d)
-
-  divides_mul : (d u a : P) → Divides d a → Divides d (R.mul u a)
-  divides_mul d u a h = (R.mul u h.0, ap (R.mul u) h.1 ∙ sym (PL.mul_assoc u h.0 d))
-
-  divides_trans : (d e a : P) → Divides d e → Divides e a → Divides d a
-  divides_trans d e a h k = (R.mul k.0 h.0, k.1 ∙ ap (R.mul k.0) h.1 ∙ sym (PL.mul_assoc k.0 h.0 d))
-
   -- g is the greatest common divisor of c and h 0 .. h (n - 1)
   pub record ListGcd (c : Poly K.ring) (h : ℕ → Poly K.ring) (n : ℕ) : Type 0 where
     pub g : Poly K.ring
-    pub of_c : Divides g c
+    pub of_c : Divides (polynomials K.ring) g c
     pub part : ℕ → Poly K.ring
     pub of_each : (i : ℕ) → i < n → h i ≡ (polynomials K.ring).mul (part i) g
-    pub greatest : (a w : Poly K.ring) → Divides a ((polynomials K.ring).mul w c) → ((i : ℕ) → i < n → Divides a ((polynomials K.ring).mul w (h i))) → Divides a ((polynomials K.ring).mul w g)
+    pub greatest : (a w : Poly K.ring) → Divides (polynomials K.ring) a ((polynomials K.ring).mul w c) → ((i : ℕ) → i < n → Divides (polynomials K.ring) a ((polynomials K.ring).mul w (h i))) → Divides (polynomials K.ring) a ((polynomials K.ring).mul w g)
 
   gcd_step : (c : P) (h : ℕ → P) (n : ℕ) → (d : ListGcd c h n) → Bezout K.ring d.g (h n) → ListGcd c h (suc n)
   gcd_step c h n d e = record {
     g = e.g;
-    of_c = divides_trans e.g d.g c (e.s, e.of_a) d.of_c;
+    of_c = divides_trans (polynomials K.ring) PL e.g d.g c (e.s, e.of_a) d.of_c;
     part = part;
     of_each = λ i l. each i (ltb i n) refl (cases_lt i n) l;
-    greatest = λ a w hc hs. subst (Divides a) (sym (whole w)) (divides_sum a _ _ (divides_mul a e.u (R.mul w d.g) (d.greatest a w hc (λ i l. hs i (omega arith)))) (divides_mul a e.v (R.mul w (h n)) (hs n (omega arith))));
+    greatest = λ a w hc hs. subst (Divides (polynomials K.ring) a) (sym (whole w)) (divides_add (polynomials K.ring) PL a _ _ (divides_left (polynomials K.ring) PL a e.u (R.mul w d.g) (d.greatest a w hc (λ i l. hs i (omega arith)))) (divides_left (polynomials K.ring) PL a e.v (R.mul w (h n)) (hs n (omega arith))));
   }
     where
       part : ℕ → P
@@ -97,7 +86,7 @@ module _ (K : Field) where
     pub nums : List (Poly K.ring)
     pub monic : IsTrue (K.same (leading den) K.one)
     pub count : IsTrue (eqb (length nums) n)
-    pub lowest : (d : Poly K.ring) → Divides d den → ((i : ℕ) → i < n → Divides d (coeff (polynomials K.ring) nums i)) → IsTrue (nat_lt (size K.ring d) 2)
+    pub lowest : (d : Poly K.ring) → Divides (polynomials K.ring) d den → ((i : ℕ) → i < n → Divides (polynomials K.ring) d (coeff (polynomials K.ring) nums i)) → IsTrue (nat_lt (size K.ring d) 2)
 
   Reduced_path : (n : ℕ) (s t : Reduced n) → s.den ≡ t.den → s.nums ≡ t.nums → s ≡ t
   Reduced_path n s t e h = λ i. record {
@@ -105,7 +94,7 @@ module _ (K : Field) where
     nums = h i;
     monic = is_prop→PathP (λ i. K.same (leading (e i)) K.one ≡ true) (λ i. Bool-set _ true) s.monic t.monic i;
     count = is_prop→PathP (λ i. eqb (length (h i)) n ≡ true) (λ i. Bool-set _ true) s.count t.count i;
-    lowest = is_prop→PathP (λ i. (d : P) → Divides d (e i) → ((j : ℕ) → j < n → Divides d (coeff R (h i) j)) → nat_lt (size K.ring d) 2 ≡ true) (λ i. Π_prop (λ d. Π_prop (λ _. Π_prop (λ _. Bool-set _ true)))) s.lowest t.lowest i;
+    lowest = is_prop→PathP (λ i. (d : P) → Divides (polynomials K.ring) d (e i) → ((j : ℕ) → j < n → Divides (polynomials K.ring) d (coeff R (h i) j)) → nat_lt (size K.ring d) 2 ≡ true) (λ i. Π_prop (λ d. Π_prop (λ _. Π_prop (λ _. Bool-set _ true)))) s.lowest t.lowest i;
   }
 
   -- the sizes of a quotient
@@ -132,7 +121,7 @@ module _ (K : Field) where
   leading_at p m h = ap (λ k. coeff K.ring p.coeffs (pred k)) h
 
   -- monic polynomials that divide each other are equal
-  monic_equal : (a b : P) → R.same a R.zero ≡ false → R.same b R.zero ≡ false → leading a ≡ K.one → leading b ≡ K.one → Divides a b → Divides b a → a ≡ b
+  monic_equal : (a b : P) → R.same a R.zero ≡ false → R.same b R.zero ≡ false → leading a ≡ K.one → leading b ≡ K.one → Divides (polynomials K.ring) a b → Divides (polynomials K.ring) b a → a ≡ b
   monic_equal a b na nb la lb h k =
       let sa : (m : ℕ) × (size K.ring a ≡ suc m) = nonzero_size K a na in
       let sb : (m : ℕ) × (size K.ring b ≡ suc m) = nonzero_size K b nb in
@@ -160,13 +149,13 @@ module _ (K : Field) where
   den_nonzero n t = same_false R D.tests t.den R.zero (λ e. K.is_field.one_not_zero (sym (den_monic n t) ∙ ap leading e))
 
   -- the numerators and the denominator have no divisor in common
-  den_divides : (n : ℕ) (s t : Reduced n) → ((i : ℕ) → i < n → R.mul (coeff R s.nums i) t.den ≡ R.mul (coeff R t.nums i) s.den) → Divides s.den t.den
+  den_divides : (n : ℕ) (s t : Reduced n) → ((i : ℕ) → i < n → R.mul (coeff R s.nums i) t.den ≡ R.mul (coeff R t.nums i) s.den) → Divides (polynomials K.ring) s.den t.den
   den_divides n s t cross =
       let small : size K.ring d.g < 2 = ltb-true (size K.ring d.g) 2 (s.lowest d.g d.of_c (λ i l. (d.part i, d.of_each i l))) in
       let sg : (m : ℕ) × (size K.ring d.g ≡ suc m) = nonzero_size K d.g (factor_nonzero d.g s.den d.of_c.0 d.of_c.1 (den_nonzero n s)) in
       let u : (h : P) × (R.mul h d.g ≡ R.one) = unit_poly K d.g (omega (arith, small, sg.1)) in
-      let w : Divides s.den (R.mul t.den d.g) = d.greatest s.den t.den (t.den, refl) (λ i l. (coeff R t.nums i, PL.mul_comm t.den (coeff R s.nums i) ∙ cross i l)) in
-      subst (Divides s.den) (ring3 R PL (λ h t g. h ⊗ (t ⊗ g)) (λ h t g. t ⊗ (h ⊗ g)) refl u.0 t.den d.g ∙ ap (R.mul t.den) u.1 ∙ PL.mul_one t.den) (divides_mul s.den u.0 (R.mul t.den d.g) w)
+      let w : Divides (polynomials K.ring) s.den (R.mul t.den d.g) = d.greatest s.den t.den (t.den, refl) (λ i l. (coeff R t.nums i, PL.mul_comm t.den (coeff R s.nums i) ∙ cross i l)) in
+      subst (Divides (polynomials K.ring) s.den) (ring3 R PL (λ h t g. h ⊗ (t ⊗ g)) (λ h t g. t ⊗ (h ⊗ g)) refl u.0 t.den d.g ∙ ap (R.mul t.den) u.1 ∙ PL.mul_one t.den) (divides_left (polynomials K.ring) PL s.den u.0 (R.mul t.den d.g) w)
     where
       d : ListGcd s.den (coeff R s.nums) n
       d = list_gcd s.den (coeff R s.nums) n
@@ -259,17 +248,17 @@ module _ (K : Field) where
           κ = unit_poly K ι ι_size
 
           -- what divides ι * p divides p
-          up : (e p g : P) → Divides e (R.mul ι p) → Divides (R.mul e g) (R.mul R.one (R.mul p g))
+          up : (e p g : P) → Divides (polynomials K.ring) e (R.mul ι p) → Divides (polynomials K.ring) (R.mul e g) (R.mul R.one (R.mul p g))
           up e p g k = (
             R.mul κ.0 k.0,
             ring3 R PL (λ p g z. unit ⊗ (p ⊗ g)) (λ p g z. unit ⊗ p ⊗ g) refl p g p ∙ ap (λ t. R.mul (R.mul t p) g) (sym κ.1)
                 ∙ ring4 R PL (λ k ι p g. ((k ⊗ ι) ⊗ p) ⊗ g) (λ k ι p g. (k ⊗ (ι ⊗ p)) ⊗ g) refl κ.0 ι p g ∙ ap (λ t. R.mul (R.mul κ.0 t) g) k.1 ∙ ring4 R PL (λ k q e g. (k ⊗ (q ⊗ e)) ⊗ g) (λ k q e g. (k ⊗ q) ⊗ (e ⊗ g)) refl κ.0 k.0 e g,
           )
 
-          small : (e : P) → Divides e (R.mul ι s) → ((i : ℕ) → i < n → Divides e (coeff R (table n (λ i. R.mul ι (d.part i))) i)) → size K.ring e < 2
+          small : (e : P) → Divides (polynomials K.ring) e (R.mul ι s) → ((i : ℕ) → i < n → Divides (polynomials K.ring) e (coeff R (table n (λ i. R.mul ι (d.part i))) i)) → size K.ring e < 2
           small e hd hn =
-              let w : Divides (R.mul e d.g) (R.mul R.one d.g) = d.greatest (R.mul e d.g) R.one (subst (λ t. Divides (R.mul e d.g) (R.mul R.one t)) (sym d.of_c.1) (up e s d.g hd))
-              (λ i l. subst (λ t. Divides (R.mul e d.g) (R.mul R.one t)) (sym (d.of_each i l)) (up e (d.part i) d.g (subst (Divides e) (table_at n (λ i. R.mul ι (d.part i)) i l) (hn i l)))) in
+              let w : Divides (polynomials K.ring) (R.mul e d.g) (R.mul R.one d.g) = d.greatest (R.mul e d.g) R.one (subst (λ t. Divides (polynomials K.ring) (R.mul e d.g) (R.mul R.one t)) (sym d.of_c.1) (up e s d.g hd))
+              (λ i l. subst (λ t. Divides (polynomials K.ring) (R.mul e d.g) (R.mul R.one t)) (sym (d.of_each i l)) (up e (d.part i) d.g (subst (Divides (polynomials K.ring) e) (table_at n (λ i. R.mul ι (d.part i)) i l) (hn i l)))) in
               let one : R.one ≡ R.mul w.0 e = cancel D R.one (R.mul w.0 e) d.g (factor_nonzero d.g c s d.of_c.1 nc) (w.1 ∙ sym (PL.mul_assoc w.0 e d.g)) in
               let se : (j : ℕ) × (size K.ring e ≡ suc j) = nonzero_size K e (factor_nonzero e R.one w.0 one D.proper) in
               let q : (j : ℕ) × ((size K.ring w.0 ≡ suc j) × (0 ≡ j + se.0)) = quotient_size e R.one w.0 se.0 0 one se.1 (one_size K) in

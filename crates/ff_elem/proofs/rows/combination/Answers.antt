@@ -2,7 +2,7 @@ use Rattle.ff_theory.specs.Poly.{polynomials}
 use Rattle.ff_theory.proofs.Poly.{polynomial_laws, polynomial_tests}
 use Rattle.ff_poly.specs.Words.{poly_of, plane_of}
 use Rattle.ff_poly.specs.Monomial.{monomial}
-use Rattle.ff_poly.proofs.Answer.{ok_map}
+use Rattle.ff_theory.proofs.Results.{ok_map}
 use Rattle.std.proofs.Common.{refl, ◌∙◌}
 use Rattle.ff_elem.proofs.RowLemmas.{one-monomial}
 use Rattle.ff_elem.proofs.rows.combination.Goals as goal

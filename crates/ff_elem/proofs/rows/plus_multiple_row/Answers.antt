@@ -2,8 +2,9 @@ use Rattle.std.proofs.Common.{◌-◌, get_or, sym, ◌∙◌, ap, ap₂, subst}
 use Rattle.ff_theory.specs.Poly.{polynomials}
 use Rattle.ff_poly.specs.Words.{poly_of, IsPoly}
 use Rattle.ff_poly.proofs.Size.{poly_fits}
-use Rattle.ff_poly.proofs.Answer.{ok_map}
-use Rattle.ff_elem.proofs.RowLemmas.{row-value, row-poly, raised_row-value, raised_row-poly}
+use Rattle.ff_theory.proofs.Results.{ok_map}
+use Rattle.ff_poly.proofs.Rows.{row-value}
+use Rattle.ff_elem.proofs.RowLemmas.{row-poly, raised_row-value, raised_row-poly}
 use Rattle.ff_elem.proofs.rows.plus_multiple_row.Goals as goal
 
 pub plus_product-requires : goal.plus_product-requires

@@ -3,7 +3,7 @@ use Rattle.std.proofs.lemmas.List.{length-map}
 use Rattle.ff_lin.specs.Space.{SpaceParts, HasExactly, IsOrthogonal}
 use Rattle.ff_lin.specs.Kernel.{IsSolvedBy}
 use Rattle.ff_lin.proofs.Relations.{kernel_code}
-use Rattle.ff_lin.proofs.Inserted.{ok_map}
+use Rattle.ff_theory.proofs.Results.{ok_map}
 use Rattle.ff_lin.proofs.Space.kernel.Goals as goal
 
 pub returns-clause-exact : goal.returns-clause-exact

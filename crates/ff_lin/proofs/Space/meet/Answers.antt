@@ -3,7 +3,7 @@ use Rattle.std.proofs.lemmas.List.{length-map}
 use Rattle.ff_lin.specs.Span.{SameSpan}
 use Rattle.ff_lin.specs.Space.{SpaceParts, InSpace, vectors_of, combinations_of}
 use Rattle.ff_lin.proofs.Placed.{basis_vectors}
-use Rattle.ff_lin.proofs.Inserted.{ok_map}
+use Rattle.ff_theory.proofs.Results.{ok_map}
 use Rattle.ff_lin.proofs.MeetSum.{meet_code}
 use Rattle.ff_lin.proofs.Space.meet.Goals as goal
 

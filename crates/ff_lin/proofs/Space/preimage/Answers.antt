@@ -1,7 +1,7 @@
 use Rattle.std.proofs.Common.{map, Vec, Global}
 use Rattle.ff_lin.specs.Space.{HasExactly, InSpace, IsRelation, combination_of}
 use Rattle.ff_lin.proofs.Relations.{preimage_code}
-use Rattle.ff_lin.proofs.Inserted.{ok_map}
+use Rattle.ff_theory.proofs.Results.{ok_map}
 use Rattle.ff_lin.proofs.Space.preimage.Goals as goal
 
 pub returns-clause-exact : goal.returns-clause-exact

@@ -2,7 +2,7 @@ use Rattle.std.proofs.Common.{length, map, Vec, Global}
 use Rattle.ff_lin.specs.Space.{HasExactly, IsRelation}
 use Rattle.ff_lin.specs.Kernel.{IsSolvedBy}
 use Rattle.ff_lin.proofs.Relations.{relations_code}
-use Rattle.ff_lin.proofs.Inserted.{ok_map}
+use Rattle.ff_theory.proofs.Results.{ok_map}
 use Rattle.ff_lin.proofs.Space.relations.Goals as goal
 
 pub returns-clause-exact : goal.returns-clause-exact

@@ -1,7 +1,7 @@
 use Rattle.std.proofs.Common.{◌≡◌, ℕ, ◌↔◌, ◌++◌, length, map, refl, sym, ◌∙◌, ap, subst, Vec, Global}
 use Rattle.ff_lin.specs.Space.{SpaceParts, InSpace, SameSpace, IsSum}
 use Rattle.ff_lin.proofs.Placed.{basis_vectors}
-use Rattle.ff_lin.proofs.Inserted.{ok_map}
+use Rattle.ff_theory.proofs.Results.{ok_map}
 use Rattle.ff_lin.proofs.MeetSum.{sum-exact}
 use Rattle.ff_lin.proofs.Space.sum.Goals as goal
 

@@ -2,7 +2,7 @@ use Rattle.std.proofs.Common.{ℕ, map, Vec, Global}
 use Rattle.std.specs.Option.{MatchOption}
 use Rattle.ff_lin.specs.Space.{vector_of, IsSolution}
 use Rattle.ff_lin.specs.Kernel.{BeginsLater, IsTailOfFirst}
-use Rattle.ff_lin.proofs.Inserted.{ok_map}
+use Rattle.ff_theory.proofs.Results.{ok_map}
 use Rattle.ff_lin.proofs.Augmented.{solve_code}
 use Rattle.ff_lin.proofs.systems.solve.Goals as goal
 

@@ -4,7 +4,8 @@ use Rattle.ff_theory.specs.Poly.{coeff, Poly, polynomials}
 use Rattle.ff_theory.proofs.Coeffs.{coeff-map}
 use Rattle.ff_theory.proofs.Lists.{map_push}
 use Rattle.ff_poly.specs.Words.{poly_of, IsPoly}
-use Rattle.ff_poly.specs.Divisors.{Divides, polys_of, products_with}
+use Rattle.ff_theory.specs.Divides.{Divides}
+use Rattle.ff_poly.specs.Divisors.{polys_of, products_with}
 use Rattle.ff_poly.proofs.lowest.quotients.Goals as goal
 
 pub quotient-requires : goal.quotient-requires

@@ -4,7 +4,8 @@ use Rattle.ff_theory.specs.Sum.{sum_below}
 use Rattle.ff_theory.proofs.Poly.{polynomial_laws}
 use Rattle.ff_theory.proofs.Solver.{zero_add}
 use Rattle.ff_poly.specs.Words.{poly_of}
-use Rattle.ff_poly.proofs.Answer.{ok_map, refill-whole}
+use Rattle.ff_theory.proofs.Results.{ok_map}
+use Rattle.ff_poly.proofs.Answer.{refill-whole}
 use Rattle.ff_poly.proofs.plane.row_product.Goals as goal
 
 pub returns-clause-value : goal.returns-clause-value

@@ -3,7 +3,7 @@ use Rattle.ff_theory.specs.Poly.{polynomials}
 use Rattle.ff_poly.specs.Words.{poly_of, plane_of}
 use Rattle.ff_poly.specs.Monomial.{monomial}
 use Rattle.ff_poly.proofs.Size.{poly_fits}
-use Rattle.ff_poly.proofs.Answer.{ok_map}
+use Rattle.ff_theory.proofs.Results.{ok_map}
 use Rattle.ff_elem.proofs.Size.{elem_small}
 use Rattle.ff_elem.proofs.Quotients.{element-count, denominator-length, sum-value}
 use Rattle.ff_elem.proofs.algebra.Alg.add.Goals as goal

@@ -2,7 +2,7 @@ use Rattle.std.proofs.Common.{◌∙◌, sym, ap, ap₂, subst, All}
 use Rattle.ff_theory.specs.Poly.{polynomials}
 use Rattle.ff_poly.specs.Words.{IsPoly, plane_of}
 use Rattle.ff_poly.proofs.Size.{poly_fits}
-use Rattle.ff_poly.proofs.Answer.{ok_map}
+use Rattle.ff_theory.proofs.Results.{ok_map}
 use Rattle.ff_elem.proofs.Size.{elem_small}
 use Rattle.ff_elem.proofs.Quotients.{denominator-length, product-exact}
 use Rattle.ff_elem.proofs.algebra.Alg.mul.Goals as goal

@@ -1,6 +1,6 @@
 use Rattle.std.proofs.Common.{◌∙◌, ap}
 use Rattle.ff_poly.specs.Words.{poly_of}
-use Rattle.ff_poly.proofs.Answer.{ok_map}
+use Rattle.ff_theory.proofs.Results.{ok_map}
 use Rattle.ff_elem.specs.Elem.{plane_in}
 use Rattle.ff_elem.proofs.Quotients.{over-one-value, one-rows}
 use Rattle.ff_elem.proofs.algebra.Alg.one.Goals as goal

@@ -1,6 +1,6 @@
 use Rattle.std.proofs.Common.{[], ◌∷◌, ◌∙◌, ap, ap₂}
 use Rattle.ff_theory.specs.Poly.{poly}
-use Rattle.ff_poly.proofs.Answer.{ok_map}
+use Rattle.ff_theory.proofs.Results.{ok_map}
 use Rattle.ff_elem.specs.Elem.{plane_in}
 use Rattle.ff_elem.proofs.Quotients.{over-one-value, x-rows}
 use Rattle.ff_elem.proofs.algebra.Alg.x.Goals as goal

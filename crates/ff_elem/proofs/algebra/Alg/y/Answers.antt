@@ -2,7 +2,7 @@ use Rattle.std.proofs.Common.{[], ◌∷◌, ◌++◌, ◌∙◌, sym, ap, subst
 use Rattle.std.proofs.lemmas.List.Elements.{All-cons}
 use Rattle.ff_poly.specs.Words.{poly_of, IsPoly}
 use Rattle.ff_poly.proofs.Size.{poly_fits}
-use Rattle.ff_poly.proofs.Answer.{ok_map}
+use Rattle.ff_theory.proofs.Results.{ok_map}
 use Rattle.ff_elem.specs.Elem.{plane_in}
 use Rattle.ff_elem.proofs.Size.{elem_small}
 use Rattle.ff_elem.proofs.RowLemmas.{zero-poly}

@@ -2,7 +2,7 @@ use Rattle.std.proofs.Common.{rules, arith, ◌≡◌, ◌+◌, ◌-◌, ◌^◌
 use Rattle.ff_theory.specs.Ring.{power, IsElement}
 use Rattle.ff_theory.specs.Poly.{polynomials}
 use Rattle.ff_poly.specs.Words.{poly_of}
-use Rattle.ff_poly.proofs.Answer.{ok_map}
+use Rattle.ff_theory.proofs.Results.{ok_map}
 use Rattle.ff_poly.proofs.Squaring.{room-half, room-square, room-odd, power-even, power-odd}
 use Rattle.ff_poly.proofs.poly.Poly.+power.Goals as goal
 

@@ -2,7 +2,7 @@ use Rattle.std.proofs.Common.{◌≡◌, List, sym, ◌∙◌, ap}
 use Rattle.ff_theory.specs.Poly.{polynomials}
 use Rattle.ff_theory.proofs.Poly.{polynomial_laws}
 use Rattle.ff_poly.specs.Words.{poly_of}
-use Rattle.ff_poly.proofs.Answer.{ok_map}
+use Rattle.ff_theory.proofs.Results.{ok_map}
 use Rattle.ff_poly.proofs.CommonFactor.{one_poly, exact_division}
 use Rattle.ff_poly.proofs.poly.Poly.quotient.Goals as goal
 
