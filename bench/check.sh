@@ -1,6 +1,7 @@
 #!/bin/sh
-# Times ./ff check on five inputs, the last one at the limits (p = 97, equations of y-degree 6 and x-degree 12, elements of x-degree 512
-# and y-degree 64), and on a text of 65,536 bytes that is mostly like terms. The time is the least of three runs, the start of the process included.
+# Times ./ff check on eight inputs, the fifth one at the limits (p = 97, equations of y-degree 6 and x-degree 12, elements of x-degree 512
+# and y-degree 64) and the last three with elements of high degree whose values at one another are of far higher degree, and on a text of
+# 65,536 bytes that is mostly like terms. The time is the least of three runs, the start of the process included.
 set -eu
 top=$(cd "$(dirname "$0")/.." && pwd)
 work=$(mktemp -d)

@@ -1,5 +1,5 @@
 #!/usr/bin/env python3
-"""Writes the inputs of bench/check.sh into the folder that is named: five for the time of `check`, and one long text for that of the reader."""
+"""Writes the inputs of bench/check.sh into the folder that is named: eight for the time of `check`, and one long text for that of the reader."""
 import random
 import sys
 from pathlib import Path
@@ -33,6 +33,24 @@ def disguised(p, terms, g, h):
     return written({power: c for power, c in total.items() if c})
 
 
+def dense(source, p, width, height=0):
+    """A polynomial with all terms within these degrees."""
+    return {(i, j): source.randint(1, p - 1) for j in range(height + 1) for i in range(width + 1)}
+
+
+def power_modulo(p, terms, n):
+    """The n-th power in E(y^n - x): y^(n*q+r) is x^q*y^r."""
+    total = {(0, 0): 1}
+    for _ in range(n):
+        product = {}
+        for (i, j), c in total.items():
+            for (k, l), d in terms.items():
+                power = (i + k + (j + l) // n, (j + l) % n)
+                product[power] = (product.get(power, 0) + c * d) % p
+        total = {power: c for power, c in product.items() if c}
+    return total
+
+
 def text(p, f, g, x, y, u, v):
     return f"p {p}\nf {f}\ng {g}\nX {x}\nY {y}\nU {u}\nV {v}\n"
 
@@ -52,6 +70,18 @@ def main():
         "3-middle": text(97, written(middle), written(middle), *random_pair(64, 8, 60), *random_pair(64, 8, 60)),
         "4-identity": text(97, written(full), written(full), *identity(), *identity()),
         "5-largest": text(97, written(full), written(full), *random_pair(512, 64, 1000), *random_pair(512, 64, 1000)),
+    }
+    whole, fraction = [], []
+    for _ in range(2):
+        above, below = written(dense(source, 97, 512)), written(dense(source, 97, 512))
+        whole.append(above)
+        fraction.append(f"({above})/({below})")
+    roots = [dense(source, 97, width, 5) for width in (80, 40)]
+    sixth = [(written(power_modulo(97, root, 6)), written(root)) for root in roots]
+    inputs |= {
+        "7-polynomials": text(97, "y-x", "y-x", whole[0], whole[0], whole[1], whole[1]),
+        "8-fractions": text(97, "y-x", "y-x", fraction[0], fraction[0], fraction[1], fraction[1]),
+        "9-sixth-powers": text(97, "y^6-x", "y^6-x", *sixth[0], *sixth[1]),
     }
     for name, data in inputs.items():
         assert len(data) <= 65536, (name, len(data))

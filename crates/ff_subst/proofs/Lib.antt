@@ -1,4 +1,8 @@
 pub mod Columns
-pub mod Multiples
+pub mod Congruences
+pub mod NearPlanes
+pub mod Remainders
+pub mod Numerators
+pub mod Evaluation
 pub mod Size
 pub mod PairValues

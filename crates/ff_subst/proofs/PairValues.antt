@@ -9,7 +9,7 @@ use Rattle.ff_theory.proofs.Poly.{polynomial_laws, polynomial_tests}
 use Rattle.ff_theory.proofs.Evaluate.{eval_map, eval-const}
 use Rattle.ff_theory.proofs.Algebra.{Plane}
 use Rattle.ff_theory.proofs.Element.{algebra_of, algebra_is_ring, constant}
-use Rattle.ff_theory.proofs.Constants.{constant_map, one_inverse}
+use Rattle.ff_theory.proofs.Constants.{constant_map}
 use Rattle.ff_poly.specs.Words.{poly_of, plane_of}
 use Rattle.ff_data.specs.Substitution.{poly_at, plane_at_pair, IsDefined, IsValue}
 
@@ -40,9 +40,13 @@ module _ (F : Field) (g : Plane F) where
   pub defined : (den : Poly F.ring) (num : Plane F) (X Y v : (algebra_of F g).carrier) → IsValue F g den num X Y v → IsDefined F g den X
   defined den num X Y v h = record { inverse = h.inverse; inverts = h.inverts }
 
-  -- there is one value at most
-  pub one_value : (den : Poly F.ring) (num : Plane F) (X Y v w : (algebra_of F g).carrier) → IsValue F g den num X Y v → IsValue F g den num X Y w → v ≡ w
-  one_value den num X Y v w h k = h.product ∙ ap (R.mul (plane_at_pair F g X Y num)) (one_inverse R laws (poly_at F g X den) h.inverse k.inverse h.inverts k.inverts) ∙ sym k.product
+  -- the value times the denominator is the numerator
+  pub of-value : (den : Poly F.ring) (num : Plane F) (X Y v : (algebra_of F g).carrier) → IsValue F g den num X Y v → (algebra_of F g).mul v (poly_at F g X den) ≡ plane_at_pair F g X Y num
+  of-value den num X Y v h = ap (λ t. R.mul t (poly_at F g X den)) h.product ∙ laws.mul_assoc (plane_at_pair F g X Y num) h.inverse (poly_at F g X den) ∙ ap (R.mul (plane_at_pair F g X Y num)) h.inverts ∙ laws.mul_one (plane_at_pair F g X Y num)
 
-  pub value_equal : (den : Poly F.ring) (num : Plane F) (X Y v w : (algebra_of F g).carrier) → v ≡ w → IsValue F g den num X Y v → IsValue F g den num X Y w
-  value_equal den num X Y v w e h = record { inverse = h.inverse; inverts = h.inverts; product = sym e ∙ h.product }
+  pub value-of : (den : Poly F.ring) (num : Plane F) (X Y v : (algebra_of F g).carrier) → IsDefined F g den X → (algebra_of F g).mul v (poly_at F g X den) ≡ plane_at_pair F g X Y num → IsValue F g den num X Y v
+  value-of den num X Y v h e = record {
+    inverse = h.inverse;
+    inverts = h.inverts;
+    product = ring1 R laws (λ v. v) (λ v. v ⊗ unit) refl v ∙ ap (R.mul v) (sym h.inverts) ∙ ring3 R laws (λ v i d. v ⊗ (i ⊗ d)) (λ v i d. v ⊗ d ⊗ i) refl v h.inverse (poly_at F g X den) ∙ ap (λ t. R.mul t h.inverse) e;
+  }

@@ -1,71 +1,23 @@
 -- The size of what `inverse` answers where there is no inverse.
-use Rattle.std.proofs.Common.{ℕ, ◌+◌, ◌-◌, ◌*◌, ◌%◌, ◌<◌, ◌≤◌, max, sym, subst, arith, lit≤}
-use Rattle.std.proofs.lemmas.Nat.{mod_below}
+use Rattle.std.proofs.Common.{ℕ, ◌+◌, ◌<◌, ◌≤◌, max, arith}
 use Rattle.std.specs.Mem.{type_size, FitsInMemory}
 use Rattle.std.specs.declared.cmp.PartialEq
 use Rattle.std.specs.declared.default.Default
+use Rattle.ff_poly.proofs.Size.{align-le, up-le, Rounds}
 use Rattle.ff_elem.specs.contracts.inverse.InvFault.{the_row}
-use Rattle.ff_elem.proofs.Size.{elem_layout}
+use Rattle.ff_elem.proofs.Size.{elem_layout, elem_layout-le}
 use denote.RattleType.{RattleType}
 use denote.Memory.{lone}
 use prog.Memory.{align, size, up}
-use prog.Align.{align-bytes, align_w, align_pos}
-use mir.Syntax.{Ty, Width, w8, w16, w32, w64, w128}
-use mir.Val.{bytes}
-
-bytes-le : (w : Width) → bytes w ≤ 16
-bytes-le w8 = lit≤ tt
-bytes-le w16 = lit≤ tt
-bytes-le w32 = lit≤ tt
-bytes-le w64 = lit≤ tt
-bytes-le w128 = lit≤ tt
-
-align-le : (τ : Ty) → align τ ≤ 16
-align-le τ = subst (λ (n : ℕ). n ≤ 16) (sym (align-bytes τ)) (bytes-le (align_w τ))
-
--- rounded up to a multiple of an alignment
-up-le : (k e m : ℕ) → 0 < k → k ≤ 16 → e ≤ m → up k e ≤ m + 16
-up-le k e m pos small h = let l : (k - e % k) % k < k = mod_below (k - e % k) k pos in omega (arith, l, small, h)
-
--- the size of an element
-elem-le : (f : ℕ → ℕ → ℕ) → ((k e m : ℕ) → 0 < k → k ≤ 16 → e ≤ m → f k e ≤ m + 16) → (a s : ℕ) → 0 < a → a ≤ 16 → s ≤ 16 → elem_layout f a s ≤ 716
-elem-le f up a s pos small fits =
-    let k1 = max a 1 in
-    let k2 = max k1 8 in
-    let k3 = max (max k2 1) 8 in
-    let k4 = max k3 1 in
-    let k5 = max k4 1 in
-    let u1 = up a 0 0 pos small (omega arith) in
-    let u2 = up k1 (f a 0 + 8 * s) 144 (omega arith) (omega arith) (omega arith) in
-    let u3 = up k1 0 0 (omega arith) (omega arith) (omega arith) in
-    let x3 = f k1 0 + f k1 (f a 0 + 8 * s) in
-    let u4 = up 8 x3 176 (omega arith) (omega arith) (omega arith) in
-    let u5 = up 1 (f 8 x3 + 8) 200 (omega arith) (omega arith) (omega arith) in
-    let x5 = f 1 (f 8 x3 + 8) + 0 in
-    let u6 = up k2 x5 216 (omega arith) (omega arith) (omega arith) in
-    let u7 = up k2 1 1 (omega arith) (omega arith) (omega arith) in
-    let x7 = max (f k2 1 + f k2 x5) 32 in
-    let u8 = up k3 x7 300 (omega arith) (omega arith) (omega arith) in
-    let u9 = up k3 0 0 (omega arith) (omega arith) (omega arith) in
-    let x9 = f k3 0 + f k3 x7 in
-    let u10 = up k4 x9 400 (omega arith) (omega arith) (omega arith) in
-    let u11 = up k4 0 0 (omega arith) (omega arith) (omega arith) in
-    let x11 = f k4 0 + f k4 x9 in
-    let u12 = up k5 x11 500 (omega arith) (omega arith) (omega arith) in
-    let u13 = up k5 0 0 (omega arith) (omega arith) (omega arith) in
-    let x13 = f k5 0 + f k5 x11 in
-    let u14 = up 8 x13 600 (omega arith) (omega arith) (omega arith) in
-    let x14 = f 8 x13 + 24 in
-    let u15 = up (max k5 8) x14 700 (omega arith) (omega arith) (omega arith) in
-    omega (arith, u15)
+use prog.Align.{align_pos}
 
 -- the same beside the mark of a choice
-choice-lt : (f : ℕ → ℕ → ℕ) → ((k e m : ℕ) → 0 < k → k ≤ 16 → e ≤ m → f k e ≤ m + 16) → (a s : ℕ) → 0 < a → a ≤ 16 → s ≤ 16
+choice-lt : (f : ℕ → ℕ → ℕ) → Rounds f → (a s : ℕ) → 0 < a → a ≤ 16 → s ≤ 16
     → f (max (max (max (max (max (max (max (max (max a 1) 8) 1) 8) 1) 1) 8) 1) 1) (max (f (max (max (max (max (max (max (max a 1) 8) 1) 8) 1) 1) 8) 1 + elem_layout f a s) 1) < 9223372036854775808
 choice-lt f up a s pos small fits =
     let k6 = max (max (max (max (max (max (max a 1) 8) 1) 8) 1) 1) 8 in
     let mark = up k6 1 1 (omega (arith, pos)) (omega (arith, small)) (omega arith) in
-    let whole = up (max (max k6 1) 1) (max (f k6 1 + elem_layout f a s) 1) 740 (omega (arith, pos)) (omega (arith, small)) (omega (arith, mark, elem-le f up a s pos small fits)) in
+    let whole = up (max (max k6 1) 1) (max (f k6 1 + elem_layout f a s) 1) 740 (omega (arith, pos)) (omega (arith, small)) (omega (arith, mark, elem_layout-le f up a s pos small fits)) in
     omega (arith, whole)
 
 -- over small values it is small

@@ -1,3 +1,4 @@
--- Powers and columns, as the evaluation of polynomials keeps them.
-pub mod Powers
+-- Polynomials known modulo a polynomial in x, elements cleared of denominators, and columns.
+pub mod Near
+pub mod Cleared
 pub mod Columns

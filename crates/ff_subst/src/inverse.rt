@@ -1,15 +1,18 @@
 // Values of elements, satisfying pairs and inverse pairs.
-ghost use Rattle.std.specs.Prelude.{◌≡◌, ◌+◌, ◌↔◌, IfOk, IfSome, IfNone, IsTrue};
+ghost use Rattle.std.specs.Prelude.{◌≡◌, ◌+◌, ◌≤◌, ◌↔◌, IfOk, IfSome, IfNone, IsTrue, [], length};
 ghost use Rattle.std.specs.List.{All};
 ghost use Rattle.ff_poly.specs.Words.{IsPoly, IsPlane};
 ghost use Rattle.ff_elem.specs.Elem.{elem_of, IsElem};
+ghost use Rattle.ff_subst.specs.Cleared.{IsMatrix, ArePowers};
 ghost use Rattle.ff_data.specs.Pairs.{IsPair, Satisfies, HasValue, ValueIs, Undoes, IsInversePair};
 
-use crate::values::{plane_at, powers_of};
+use crate::cleared::{matrix_of, powers_of};
+use crate::equal::{agrees, modulus, vanishes};
+use crate::values::{At, plane_at};
 use ff_alg::{Coefficient, FiniteField, NoMemory, Steps};
 use ff_data::Pair;
 use ff_elem::{Alg, Elem, InvFault};
-use ff_poly::Plane;
+use ff_poly::{Plane, Poly};
 use std::alloc::Global;
 use std::slice;
 use std::sync::ledger::Ledger;
@@ -34,11 +37,13 @@ where
     ensures value { IfOk result (λ v. IfSome v (λ r. ValueIs (K.lawful alg2.now.k) alg2.now.f s.now pair.now (elem_of (K.lawful alg2.now.k) alg2.now.f r))) }
     ensures none { IfOk result (λ v. IfNone v (¬ HasValue (K.lawful alg2.now.k) alg2.now.f s.now pair.now)) }
 {
-    let at = powers_of(alloc, alg2, pair, s.num.items.len().max(1))?;
+    let x = matrix_of(alloc, alg2, &pair.x)?;
+    let y = powers_of(alloc, alg2, &pair.y, s.num.rows().len().max(1))?;
+    let at = At { pair, x: &x, y: &y };
     let den = plane_at(alloc, alg2, &at, slice::from_ref(&s.den))?;
     match alg2.inverse(alloc, &den) {
         Ok(inverse) => {
-            let num = plane_at(alloc, alg2, &at, &s.num.items)?;
+            let num = plane_at(alloc, alg2, &at, s.num.rows())?;
             let value = alg2.mul(alloc, &num, &inverse)?;
             Ok(Some(value))
         }
@@ -61,10 +66,39 @@ where
     requires pair { IsPair (K.lawful alg2.now.k) alg2.now.f pair.now }
     ensures { IfOk result (λ r. IsTrue r ↔ Satisfies (K.lawful alg2.now.k) f.now alg2.now.f pair.now) }
 {
-    let at = powers_of(alloc, alg2, pair, f.rows().len())?;
-    let value = plane_at(alloc, alg2, &at, f.rows())?;
-    let zero = alg2.zero(alloc)?;
-    Ok(alg2.same(&value, &zero))
+    let x = matrix_of(alloc, alg2, &pair.x)?;
+    let y = powers_of(alloc, alg2, &pair.y, f.rows().len())?;
+    let at = At { pair, x: &x, y: &y };
+    let m = modulus(alloc, &alg2.k)?;
+    let possible = vanishes(alloc, alg2, &m, &at, f.rows())?;
+    if !possible {
+        return Ok(false);
+    }
+    let zero = Poly::zero(alloc);
+    vanishes(alloc, alg2, &zero, &at, f.rows())
+}
+
+// Whether s has a value at the pair.
+fn is_defined<K: FiniteField>(
+    alloc: Global,
+    alg2: &Alg<K>,
+    s: &Elem<K::E>,
+    at: &At<'_, K::E>,
+) -> Result<bool, NoMemory>
+where
+    K::E: Coefficient,
+    requires x { IsMatrix (K.lawful alg2.now.k) alg2.now.f [] (elem_of (K.lawful alg2.now.k) alg2.now.f at.now.pair.now.x) at.now.x.now }
+    requires y { ArePowers (K.lawful alg2.now.k) alg2.now.f [] (elem_of (K.lawful alg2.now.k) alg2.now.f at.now.pair.now.y) at.now.y.now }
+    requires den { IsPoly (K.elements alg2.now.k) s.now.den }
+    requires some { 1 ≤ length at.now.y.now.planes }
+    ensures { IfOk result (λ r. IsTrue r ↔ HasValue (K.lawful alg2.now.k) alg2.now.f s.now at.now.pair.now) }
+{
+    let den = plane_at(alloc, alg2, at, slice::from_ref(&s.den))?;
+    match alg2.inverse(alloc, &den) {
+        Ok(_) => Ok(true),
+        Err(InvFault::ZeroDivisor { u: _ }) => Ok(false),
+        Err(InvFault::NoMemory) => Err(NoMemory),
+    }
 }
 
 // Whether s(X, Y) is v.
@@ -83,10 +117,21 @@ where
     requires v { IsElem (K.lawful alg2.now.k) alg2.now.f v.now }
     ensures { IfOk result (λ r. IsTrue r ↔ ValueIs (K.lawful alg2.now.k) alg2.now.f s.now pair.now (elem_of (K.lawful alg2.now.k) alg2.now.f v.now)) }
 {
-    match substitute(alloc, alg2, s, pair)? {
-        Some(value) => Ok(alg2.same(&value, v)),
-        None => Ok(false),
+    let x = matrix_of(alloc, alg2, &pair.x)?;
+    let y = powers_of(alloc, alg2, &pair.y, s.num.rows().len().max(1))?;
+    let at = At { pair, x: &x, y: &y };
+    let matrix = matrix_of(alloc, alg2, v)?;
+    let m = modulus(alloc, &alg2.k)?;
+    let possible = agrees(alloc, alg2, &m, &at, s, &matrix)?;
+    if !possible {
+        return Ok(false);
     }
+    let zero = Poly::zero(alloc);
+    let agreeing = agrees(alloc, alg2, &zero, &at, s, &matrix)?;
+    if !agreeing {
+        return Ok(false);
+    }
+    is_defined(alloc, alg2, s, &at)
 }
 
 // Whether (U, V) undoes (X, Y): X(U, V) is x and Y(U, V) is y.

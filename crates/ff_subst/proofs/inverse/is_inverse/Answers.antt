@@ -2,7 +2,7 @@ use Rattle.std.proofs.Common.{rules, ◌≡◌, true, false, sym, ◌∙◌, ap,
 use Rattle.std.specs.List.{All}
 use Rattle.ff_poly.specs.Words.{IsPoly, IsPlane}
 use Rattle.ff_data.specs.Pairs.{IsPair, Satisfies, Undoes, IsInversePair}
-use Rattle.ff_subst.proofs.Columns.{if_ok}
+use Rattle.ff_theory.proofs.Results.{ok_map}
 use Rattle.ff_subst.proofs.inverse.is_inverse.Goals as goal
 
 pub satisfies-requires : goal.satisfies-requires
@@ -41,7 +41,7 @@ returns-clause-inverse g c =
     let one : c.in_ok-satisfying.satisfying ≡ true = cc in
     let two : c.in_ok-back_satisfying.back_satisfying ≡ true = cc in
     let three : c.in_ok-undone.undone ≡ true = cc in
-    if_ok c.undoes-2.result (λ r. IsTrue r ↔ Undoes L c.args.alg2.now.f c.args.back.now c.args.pair.now) (λ r. IsTrue r ↔ IsInversePair L c.args.alg1.now.f c.args.alg2.now.f c.args.pair.now c.args.back.now)
+    ok_map (λ r. IsTrue r ↔ Undoes L c.args.alg2.now.f c.args.back.now c.args.pair.now) (λ r. IsTrue r ↔ IsInversePair L c.args.alg1.now.f c.args.alg2.now.f c.args.pair.now c.args.back.now) c.undoes-2.result
     (λ r h. (
       λ t. record {
         satisfies = c.in_ok-satisfying.ensures.0 one;

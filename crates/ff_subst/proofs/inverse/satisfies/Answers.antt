@@ -1,11 +1,44 @@
-use Rattle.std.proofs.Common.{◌≡◌, ◌∙◌, sym, ap, IsTrue, ◌↔◌}
+use Rattle.std.proofs.Common.{◌≡◌, ◌≤◌, ◌<◌, ℕ, All, [], ◌∷◌, length, true, max, IsTrue, IfOk, ◌↔◌, refl, sym, ◌∙◌, ap, subst, arith}
 use Rattle.ff_theory.specs.Lawful.{lawful_field}
-use Rattle.ff_poly.specs.Words.{plane_of}
-use Rattle.ff_elem.specs.Elem.{elem_of}
-use Rattle.ff_data.specs.declared.pair.Pair.{Pair}
-use Rattle.ff_data.specs.Substitution.{plane_at_pair}
+use Rattle.ff_poly.specs.Words.{poly_of, plane_of, IsPoly, IsPlane}
+use Rattle.ff_poly.proofs.Size.{poly_fits}
+use Rattle.ff_elem.specs.Elem.{algebra_in, elem_of}
+use Rattle.ff_elem.proofs.Size.{elem_small}
+use Rattle.ff_elem.proofs.RowLemmas.{zero-poly}
+use Rattle.ff_data.specs.Substitution.{poly_at, plane_at_pair}
+use Rattle.ff_subst.proofs.Columns.{if_ok2}
+use Rattle.ff_subst.proofs.Numerators.{each-one}
 use Rattle.ff_data.specs.Pairs.{Satisfies}
 use Rattle.ff_subst.proofs.inverse.satisfies.Goals as goal
+
+pub vanishes-requires : goal.vanishes-requires
+vanishes-requires g c =
+    let K = g.K.Ring.elements c.args.alg2.now.k in
+    let L = g.K.Ring.lawful c.args.alg2.now.k in
+    let f = c.args.alg2.now.f in
+    let F = lawful_field L in
+    let G = plane_of K f in
+    (poly_fits g.row.K-E g.met.K.Ring.small, (c.in_ok-m.ensures, (c.in_ok-x.ensures, (c.in_ok-y.ensures.powers, (subst (All (IsPoly K)) (sym c.rows-2.ensures) c.requires.f.each, omega (arith, ap length c.rows.ensures, ap length c.rows-2.ensures, c.in_ok-y.ensures.count))))))
+
+pub vanishes-requires-2 : goal.vanishes-requires-2
+vanishes-requires-2 g c =
+    let K = g.K.Ring.elements c.args.alg2.now.k in
+    let L = g.K.Ring.lawful c.args.alg2.now.k in
+    let f = c.args.alg2.now.f in
+    let F = lawful_field L in
+    let G = plane_of K f in
+    (poly_fits g.row.K-E g.met.K.Ring.small, (zero-poly K c.zero-zero.result c.zero-zero.ensures, (c.in_ok-x.ensures, (c.in_ok-y.ensures.powers, (subst (All (IsPoly K)) (sym c.rows-3.ensures) c.requires.f.each, omega (arith, ap length c.rows.ensures, ap length c.rows-3.ensures, c.in_ok-y.ensures.count))))))
+
+pub returns-then-not-possible : goal.returns-then-not-possible
+returns-then-not-possible g c =
+    let K = g.K.Ring.elements c.args.alg2.now.k in
+    let L = g.K.Ring.lawful c.args.alg2.now.k in
+    let f = c.args.alg2.now.f in
+    let F = lawful_field L in
+    let G = plane_of K f in
+    let X = elem_of L f c.args.pair.now.x in
+    let Y = elem_of L f c.args.pair.now.y in
+    (λ e. absurd cc, λ e. absurd (let t : c.in_ok-possible.possible ≡ true = c.in_ok-possible.ensures.needed (ap (λ rows. plane_at_pair F G X Y (plane_of K rows)) c.rows-2.ensures ∙ e) in cc))
 
 pub returns : goal.returns
 returns g c =
@@ -14,11 +47,10 @@ returns g c =
     let f = c.args.alg2.now.f in
     let F = lawful_field L in
     let G = plane_of K f in
-    let v = elem_of L f c.in_ok-value.value in
-    let z = elem_of L f c.in_ok-zero.zero in
+    let A = algebra_in L f in
     let X = elem_of L f c.args.pair.now.x in
     let Y = elem_of L f c.args.pair.now.y in
-    let is : v ≡ plane_at_pair F G X Y (plane_of K c.args.f.now) =
-    c.in_ok-value.ensures.value ∙ ap (λ (p : Pair _). plane_at_pair F G (elem_of L f p.x) (elem_of L f p.y) (plane_of K c.rows-2.result.now)) c.in_ok-at.ensures.pair
-    ∙ ap (λ rows. plane_at_pair F G X Y (plane_of K rows)) c.rows-2.ensures in
-    (λ t. sym is ∙ c.same.ensures.value.0 t ∙ c.in_ok-zero.ensures.value, λ e. c.same.ensures.value.1 (is ∙ e ∙ sym c.in_ok-zero.ensures.value))
+    let same = ap (λ rows. plane_at_pair F G X Y (plane_of K rows)) c.rows-3.ensures in
+    if_ok2 c.vanishes-2.result (λ r. plane_at_pair F G X Y (plane_of K c.rows-3.result.now) ≡ A.zero → IsTrue r) (λ r. c.zero-zero.result ≡ [] → IsTrue r → plane_at_pair F G X Y (plane_of K c.rows-3.result.now) ≡ A.zero)
+    (λ r. IsTrue r ↔ Satisfies L c.args.f.now f c.args.pair.now)
+    (λ r needed enough. (λ t. sym same ∙ enough c.zero-zero.ensures t, λ e. needed (same ∙ e))) c.vanishes-2.ensures.needed c.vanishes-2.ensures.enough

@@ -4,7 +4,7 @@ use Rattle.ff_theory.proofs.Element.{x_of, y_of}
 use Rattle.ff_poly.specs.Words.{plane_of}
 use Rattle.ff_elem.specs.Elem.{elem_of}
 use Rattle.ff_data.specs.Pairs.{ValueIs, Undoes}
-use Rattle.ff_subst.proofs.Columns.{if_ok}
+use Rattle.ff_theory.proofs.Results.{ok_map}
 use Rattle.ff_subst.proofs.inverse.undoes.Goals as goal
 
 pub returns-then-not-takes_x : goal.returns-then-not-takes_x
@@ -20,6 +20,6 @@ returns g c =
     let L = g.K.Ring.lawful c.args.alg.now.k in
     let f = c.args.alg.now.f in
     let takes_x : ValueIs L f c.args.pair.now.x c.args.back.now (x_of (lawful_field L) (plane_of K f)) = subst (ValueIs L f c.args.pair.now.x c.args.back.now) c.in_ok-x.ensures.value (c.in_ok-takes_x.ensures.0 (let t : c.in_ok-takes_x.takes_x ≡ true = cc in t)) in
-    if_ok c.takes-2.result (λ r. IsTrue r ↔ ValueIs L f c.args.pair.now.y c.args.back.now (elem_of L f c.in_ok-y.y)) (λ r. IsTrue r ↔ Undoes L f c.args.pair.now c.args.back.now)
+    ok_map (λ r. IsTrue r ↔ ValueIs L f c.args.pair.now.y c.args.back.now (elem_of L f c.in_ok-y.y)) (λ r. IsTrue r ↔ Undoes L f c.args.pair.now c.args.back.now) c.takes-2.result
     (λ r h. (λ t. record { x = takes_x; y = subst (ValueIs L f c.args.pair.now.y c.args.back.now) c.in_ok-y.ensures.value (h.0 t) }, λ u. h.1 (subst (ValueIs L f c.args.pair.now.y c.args.back.now) (sym c.in_ok-y.ensures.value) u.y)))
     c.takes-2.ensures
