@@ -5,6 +5,3 @@ mod inverse;
 mod values;
 
 pub use inverse::{is_inverse, satisfies, substitute};
-
-#[cfg(test)]
-mod tests;
