@@ -10,8 +10,6 @@ mod key;
 mod reduce;
 mod rows;
 mod terms;
-#[cfg(test)]
-mod tests;
 
 pub use algebra::Alg;
 pub use elem::{Elem, PolyList};

@@ -14,6 +14,3 @@ pub use mem_sink::MemSink;
 pub use mem_source::MemSource;
 pub use stream::{ReadStop, read_up_to, write_all};
 pub use traits::{Failed, Sink, Source};
-
-#[cfg(test)]
-mod tests;

@@ -8,6 +8,3 @@ mod near;
 mod values;
 
 pub use inverse::{is_inverse, satisfies, substitute};
-
-#[cfg(test)]
-mod tests;

@@ -16,6 +16,3 @@ pub use fault::TextFault;
 pub use form::Mode;
 pub use job::{Job, RawElem, read_input};
 pub use print::{print_elem, print_fault, print_list, print_poly};
-
-#[cfg(test)]
-mod tests;

@@ -9,6 +9,3 @@ mod word;
 pub use status::Status;
 pub use top::run;
 pub use word::{ByteList, Word};
-
-#[cfg(test)]
-mod tests;
