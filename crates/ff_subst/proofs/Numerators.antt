@@ -17,7 +17,7 @@ use Rattle.ff_theory.proofs.Element.{algebra_is_ring, value_of, value_map, eleme
 use Rattle.ff_poly.specs.Words.{poly_of, IsPoly, plane_of, IsPlane, row_of}
 use Rattle.ff_theory.specs.Divides.{Divides}
 use Rattle.ff_poly.specs.Divisors.{polys_of}
-use Rattle.ff_poly.proofs.Gcd.{divides_trans}
+use Rattle.ff_theory.proofs.Divides.{divides_trans}
 use Rattle.ff_elem.specs.declared.elem.Elem.{Elem}
 use Rattle.ff_elem.specs.Elem.{algebra_in, elem_of, poly_in, IsElem}
 use Rattle.ff_elem.proofs.Quotients.{rows-size, element-count, element-nonzero}

@@ -17,7 +17,7 @@ use Rattle.ff_elem.proofs.Reduction.{plane-size}
 use Rattle.ff_poly.specs.Words.{poly_of, IsPoly, plane_of, IsPlane, row_of}
 use Rattle.ff_theory.specs.Divides.{Divides}
 use Rattle.ff_elem.proofs.PolyLemmas.{poly-nonzero}
-use Rattle.ff_elem.proofs.RowLemmas.{row-value}
+use Rattle.ff_poly.proofs.Rows.{row-value}
 use Rattle.ff_subst.specs.Near.{IsCongruent}
 use Rattle.ff_subst.proofs.Congruences.{congruent-equal, congruent-zero, divides-congruent}
 use Rattle.ff_subst.proofs.NearPlanes.{congruent-rows, rows-congruent}
