@@ -75,7 +75,7 @@ def main():
     for _ in range(2):
         above, below = written(dense(source, 97, 512)), written(dense(source, 97, 512))
         whole.append(above)
-        fraction.append(f"({above})/({below})")
+        fraction.append(f"({above})/({below.replace('*y^0', '')})")
     roots = [dense(source, 97, width, 5) for width in (80, 40)]
     sixth = [(written(power_modulo(97, root, 6)), written(root)) for root in roots]
     inputs |= {

@@ -1,5 +1,5 @@
 -- Divisors of the coefficients of a product of polynomials.
-use Rattle.std.proofs.Common.{◌≡◌, ℕ, zero, suc, ◌+◌, ◌<◌, ◌≤◌, ◌⊎◌, inl, inr, refl, sym, ◌∙◌, ap, ap₂, arith}
+use Rattle.std.proofs.Common.{◌≡◌, ℕ, zero, suc, ◌+◌, ◌<◌, ◌≤◌, ◌⊎◌, inl, inr, sym, ◌∙◌, ap, arith}
 use Rattle.std.proofs.lemmas.Bool.{cases_lt}
 use Rattle.ff_theory.specs.Ring.{RingOps, IsCommRing, IsTested}
 use Rattle.ff_theory.specs.Poly.{coeff, Poly}
@@ -7,7 +7,6 @@ use Rattle.ff_theory.specs.Division.{size}
 use Rattle.ff_theory.specs.Divides.{Divides}
 use Rattle.ff_factors.specs.Factors.{DividesAll}
 use Rattle.ff_theory.proofs.Divides.{divides_zero, divides_add, divides_left, divides_right, divides_first}
-use Rattle.ff_theory.proofs.Solver.{◌⊕◌, ◌⊗◌, neg, nil, unit, ring1, ring2, ring3}
 use Rattle.ff_theory.proofs.Series.{series_mul, tail}
 use Rattle.ff_theory.proofs.Division.{zero_from}
 

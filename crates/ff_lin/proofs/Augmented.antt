@@ -1,14 +1,12 @@
 -- Solutions of linear equations, by the relations of the right side and the columns.
-use Rattle.std.proofs.Common.{◌≡◌, ℕ, zero, suc, ◌<◌, ◌≤◌, ◌⊎◌, inl, inr, List, [], ◌∷◌, length, map, get_or, drop, refl, sym, ◌∙◌, ap, arith, subst, All, Option, None, Some}
-use Rattle.std.proofs.lemmas.Bool.{cases_lt}
+use Rattle.std.proofs.Common.{◌≡◌, ℕ, zero, suc, ◌<◌, ◌≤◌, inl, inr, List, [], ◌∷◌, length, map, get_or, drop, refl, sym, ◌∙◌, ap, arith, subst, Option, None, Some}
 use Rattle.std.proofs.lemmas.List.{length-drop, length-map}
 use Rattle.std.proofs.lemmas.List.Elements.{All-drop}
 use Rattle.std.specs.Option.{MatchOption}
 use Rattle.ff_theory.specs.Ring.{IsCommRing, IsField, Elements, IsElement}
-use Rattle.ff_theory.specs.Sum.{sum_below}
 use Rattle.ff_theory.proofs.Sums.{sum-ext, sum-front, sum-zero}
-use Rattle.ff_theory.proofs.Solver.{◌⊕◌, ◌⊗◌, neg, unit, nil, ring2, ring3, mul_zero}
-use Rattle.ff_lin.specs.Span.{combination, InSpan}
+use Rattle.ff_theory.proofs.Solver.{◌⊕◌, ◌⊗◌, neg, unit, nil, ring2, mul_zero}
+use Rattle.ff_lin.specs.Span.{combination}
 use Rattle.ff_lin.specs.Space.{vector_of, vectors_of, SpaceParts, IsSpace, IsVector, InSpace, HasExactly, IsRelation, IsSolution, combination_of, pivot}
 use Rattle.ff_lin.specs.Kernel.{augmented_of, BeginsLater, IsTailOfFirst}
 use Rattle.ff_lin.proofs.Span.{span-one}

@@ -1,10 +1,9 @@
 -- Combinations of rows, as the code adds them up.
-use Rattle.std.proofs.Common.{◌≡◌, ℕ, zero, suc, ◌+◌, ◌<◌, ◌≤◌, ◌⊎◌, inl, inr, List, [], ◌∷◌, ◌++◌, length, map, get_or, set, refl, sym, ◌∙◌, ap, arith}
+use Rattle.std.proofs.Common.{◌≡◌, ℕ, suc, ◌+◌, ◌<◌, ◌≤◌, ◌⊎◌, inl, inr, List, [], length, get_or, set, refl, sym, ◌∙◌, ap, arith}
 use Rattle.std.proofs.lemmas.Bool.{cases_lt}
-use Rattle.ff_theory.specs.Ring.{IsCommRing, Elements, power, IsCharacteristic}
-use Rattle.ff_theory.specs.Poly.{coeff}
+use Rattle.ff_theory.specs.Ring.{IsCommRing, Elements, power}
 use Rattle.ff_theory.proofs.Coeffs.{coeff-past}
-use Rattle.ff_theory.proofs.Solver.{◌⊕◌, ◌⊗◌, neg, nil, ring4, zero_mul}
+use Rattle.ff_theory.proofs.Solver.{◌⊕◌, ◌⊗◌, neg, ring4}
 use Rattle.ff_lin.specs.Span.{combination, less}
 use Rattle.ff_lin.specs.Space.{vector_of, vectors_of, frobenius}
 use Rattle.ff_theory.proofs.Frobenius.{power-zero}

@@ -1,15 +1,14 @@
 -- Spaces compared by their bases.
-use Rattle.std.proofs.Common.{◌≡◌, ℕ, zero, suc, ◌+◌, ◌<◌, ◌≤◌, ◌⊎◌, inl, inr, ◌↔◌, Bool, true, false, IsTrue, List, [], ◌∷◌, length, map, get_or, refl, sym, ◌∙◌, ap, arith, subst, All}
+use Rattle.std.proofs.Common.{◌≡◌, ℕ, ◌+◌, ◌<◌, ◌≤◌, ◌⊎◌, inl, inr, ◌↔◌, Bool, true, false, IsTrue, List, [], length, map, get_or, sym, ◌∙◌, ap, arith, subst}
 use Rattle.std.proofs.lemmas.Bool.{cases_lt}
 use Rattle.std.proofs.lemmas.List.{get_or-map, length-map}
 use Rattle.ff_theory.specs.Ring.{IsCommRing, IsTested, IsField, Elements, IsElement}
 use Rattle.ff_theory.proofs.Coeffs.{coeff-past}
-use Rattle.ff_lin.specs.Span.{InSpan, SameSpan}
-use Rattle.ff_lin.specs.Space.{vector_of, vectors_of, SpaceParts, IsSpace, IsVector, InSpace, SameSpace, pivot}
+use Rattle.ff_lin.specs.Span.{InSpan}
+use Rattle.ff_lin.specs.Space.{vector_of, vectors_of, SpaceParts, IsSpace, InSpace, SameSpace, pivot}
 use Rattle.ff_lin.proofs.Entries.{entry}
 use Rattle.ff_lin.proofs.Span.{span-one}
 use Rattle.ff_lin.proofs.Placed.{span-family}
-use Rattle.ff_lin.proofs.Dependence.{differs}
 use Rattle.ff_lin.proofs.Unique.{count-most, same-vectors, one_space}
 
 pub true-is-false : (b : Bool) → b ≡ false → ¬ (IsTrue b)

@@ -8,7 +8,7 @@ use Rattle.ff_theory.specs.Sum.{sum_below}
 use Rattle.ff_theory.proofs.Sums.{sum-ext, sum-zero, sum-front, sum-add, sum-mul}
 use Rattle.ff_theory.proofs.Solver.{◌⊕◌, ◌⊗◌, neg, nil, unit, ring1, ring2, ring3, ring4, zero_mul, mul_zero, zero_add}
 use Rattle.ff_lin.specs.Span.{combination, InSpan, SameSpan, IsIndependent, Dependence, IsEchelon, EndsAt, unit_at}
-use Rattle.ff_lin.proofs.Span.{span-same, span-inside, span-one, span-more}
+use Rattle.ff_lin.proofs.Span.{span-inside, span-more}
 use Rattle.ff_lin.proofs.Dependence.{dependence, exchange, differs}
 use Rattle.ff_lin.proofs.Echelon.{coordinates, echelon-independent}
 use Rattle.ff_lin.proofs.Kernel.{combination-unit, combination-zero}

@@ -1,8 +1,7 @@
 -- Spaces and powers by the characteristic.
-use Rattle.std.proofs.Common.{◌≡◌, ℕ, zero, suc, ◌<◌, refl, sym, ◌∙◌, ap, arith}
-use Rattle.ff_theory.specs.Ring.{RingOps, IsCommRing, FieldOps, IsFiniteField, power}
+use Rattle.std.proofs.Common.{◌≡◌, ℕ, zero, suc, ◌<◌, sym, ◌∙◌, ap}
+use Rattle.ff_theory.specs.Ring.{IsCommRing, FieldOps, IsFiniteField, power}
 use Rattle.ff_theory.specs.Sum.{sum_below}
-use Rattle.ff_theory.proofs.Solver.{◌⊕◌, ◌⊗◌, unit, ring1, ring4, zero_mul}
 use Rattle.ff_theory.proofs.Sums.{sum-ext}
 use Rattle.ff_theory.proofs.Powers.{power-mul}
 use Rattle.ff_theory.proofs.Frobenius.{power-zero}

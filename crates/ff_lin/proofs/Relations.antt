@@ -1,15 +1,15 @@
 -- Kernels, relations and preimages are exact.
-use Rattle.std.proofs.Common.{◌≡◌, ℕ, zero, suc, ◌+◌, ◌<◌, ◌≤◌, ◌⊎◌, inl, inr, ◌↔◌, List, [], ◌∷◌, length, map, get_or, refl, sym, ◌∙◌, ap, arith, subst, All}
+use Rattle.std.proofs.Common.{◌≡◌, ℕ, ◌<◌, ◌≤◌, ◌⊎◌, inl, inr, ◌↔◌, List, [], length, map, get_or, sym, ◌∙◌, ap, arith, subst, All}
 use Rattle.std.proofs.lemmas.Bool.{cases_lt}
 use Rattle.std.proofs.lemmas.List.{length-map}
 use Rattle.std.proofs.lemmas.List.Elements.{All-map, All-from_get_or}
-use Rattle.ff_theory.specs.Ring.{RingOps, IsCommRing, Elements, IsFiniteField, power}
-use Rattle.ff_theory.proofs.Sums.{sum-ext, sum-zero, sum-mul, sum-swap}
-use Rattle.ff_theory.proofs.Solver.{◌⊗◌, ring3, mul_zero, zero_mul}
-use Rattle.ff_lin.specs.Span.{combination, product, EndsAt, InSpan, SameSpan, IsEchelon, reduced}
-use Rattle.ff_lin.specs.Space.{vector_of, vectors_of, SpaceParts, IsSpace, IsVector, InSpace, HasExactly, IsOrthogonal, IsRelation, AreRoots, combination_of, rest_of, frobenius, pivot}
+use Rattle.ff_theory.specs.Ring.{IsCommRing, Elements, IsFiniteField, power}
+use Rattle.ff_theory.proofs.Sums.{sum-ext, sum-zero}
+use Rattle.ff_theory.proofs.Solver.{mul_zero}
+use Rattle.ff_lin.specs.Span.{combination, product, InSpan, SameSpan, IsEchelon}
+use Rattle.ff_lin.specs.Space.{vectors_of, SpaceParts, IsSpace, IsVector, InSpace, HasExactly, IsOrthogonal, IsRelation, AreRoots, combination_of, rest_of, frobenius, pivot}
 use Rattle.ff_lin.specs.Kernel.{mirror, mirrored, mirrored_rows, mirrored_columns, null_of, IsSolvedBy}
-use Rattle.ff_lin.proofs.Span.{span-same, span-inside, span-one}
+use Rattle.ff_lin.proofs.Span.{span-same, span-inside}
 use Rattle.ff_lin.proofs.Kernel.{kernel-in, kernel-ends, kernel-product, product-span}
 use Rattle.ff_lin.proofs.Mirror.{mirror-mirror, mirror-inside}
 use Rattle.ff_lin.proofs.Echelon.{reduced-combination, reduced-inside, inside-reduced}

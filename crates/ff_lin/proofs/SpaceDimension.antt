@@ -1,12 +1,11 @@
 -- Dimensions of spaces.
-use Rattle.std.proofs.Common.{◌≡◌, ℕ, zero, suc, ◌+◌, ◌<◌, ◌≤◌, ◌⊎◌, inl, inr, ◌↔◌, List, [], length, get_or, refl, sym, ◌∙◌, ap, arith, All}
+use Rattle.std.proofs.Common.{◌≡◌, ℕ, ◌+◌, ◌<◌, ◌≤◌, ◌⊎◌, inl, inr, ◌↔◌, List, [], length, get_or, refl, sym, ◌∙◌, ap, arith, All}
 use Rattle.std.proofs.lemmas.Bool.{cases_lt}
 use Rattle.ff_theory.specs.Ring.{IsCommRing, IsTested, IsField, Elements}
 use Rattle.ff_theory.proofs.Sums.{sum-ext, sum-zero}
-use Rattle.ff_theory.proofs.Solver.{◌⊕◌, ◌⊗◌, unit, nil, ring1, ring2, mul_zero}
-use Rattle.ff_lin.specs.Span.{combination, InSpan, EndsAt}
+use Rattle.ff_theory.proofs.Solver.{◌⊕◌, nil, ring1, mul_zero}
 use Rattle.ff_lin.specs.Space.{vectors_of, SpaceParts, IsSpace, IsVector, InSpace, HasExactly, IsRelation, IsSum, combination_of, pivot}
-use Rattle.ff_lin.proofs.Span.{span-one, span-same, span-more, span-zero}
+use Rattle.ff_lin.proofs.Span.{span-one, span-zero}
 use Rattle.ff_lin.proofs.Echelon.{echelon-independent}
 use Rattle.ff_lin.proofs.Steps.{past}
 use Rattle.ff_lin.proofs.Dimension.{at-most, smaller-dimension, rank-bound, meet-sum_above, meet-sum_below}

@@ -1,12 +1,12 @@
 -- A space has one echelon basis.
-use Rattle.std.proofs.Common.{◌≡◌, ℕ, zero, suc, ◌<◌, ◌≤◌, ◌⊎◌, inl, inr, Bool, true, false, List, [], ◌∷◌, length, map, get_or, refl, sym, ◌∙◌, ap, ap₂, arith, subst, All}
+use Rattle.std.proofs.Common.{◌≡◌, ℕ, zero, suc, ◌<◌, ◌≤◌, ◌⊎◌, inl, inr, Bool, true, false, List, [], ◌∷◌, length, get_or, refl, sym, ◌∙◌, ap, ap₂, arith, subst}
 use Rattle.std.proofs.lemmas.Bool.{cases_lt, cases_order}
 use Rattle.ff_theory.specs.Ring.{RingOps, IsCommRing, IsTested, Elements, IsElement}
 use Rattle.ff_theory.proofs.Sums.{sum-ext, sum-zero, sum-single}
 use Rattle.ff_theory.proofs.Solver.{◌⊗◌, unit, ring1, mul_zero, zero_mul}
 use Rattle.std.proofs.lemmas.List.{ext_get_or}
 use Rattle.std.proofs.lemmas.List.Elements.{All-tail}
-use Rattle.ff_lin.specs.Span.{combination, InSpan, SameSpan, IsEchelon}
+use Rattle.ff_lin.specs.Span.{InSpan, SameSpan, IsEchelon}
 use Rattle.ff_lin.specs.Space.{vector_of, vectors_of, SpaceParts, IsSpace, IsVector, SameSpace, pivot}
 use Rattle.ff_lin.proofs.Echelon.{coordinates}
 use Rattle.ff_lin.proofs.Dependence.{differs}

@@ -1,4 +1,4 @@
-use Rattle.std.specs.Prelude.{◌≡◌, ℕ, ◌<◌, ◌-◌, List, length, map}
+use Rattle.std.specs.Prelude.{ℕ, ◌<◌, ◌-◌, List, length, map}
 use Rattle.ff_theory.specs.Ring.{RingOps, Elements}
 use Rattle.ff_theory.specs.Poly.{coeff, Poly, polynomials}
 use Rattle.ff_theory.specs.Divides.{Divides}

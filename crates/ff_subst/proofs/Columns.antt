@@ -1,27 +1,19 @@
 -- The loops of the evaluation, over plain values.
-use Rattle.std.proofs.Common.{◌≡◌, ℕ, zero, suc, Bool, true, false, ◌+◌, ◌-◌, ◌<◌, ◌≤◌, ◌⊎◌, inl, inr, max, List, [], ◌∷◌, ◌++◌, length, map, get_or, Result, Ok, Err, IfOk, refl, sym, ◌∙◌, ap, subst, arith}
+use Rattle.std.proofs.Common.{◌≡◌, ℕ, zero, suc, ◌+◌, ◌-◌, ◌<◌, ◌≤◌, ◌⊎◌, inl, inr, List, [], ◌∷◌, length, map, get_or, Result, Ok, Err, IfOk, refl, sym, ◌∙◌, ap, subst, arith}
 use Rattle.std.proofs.lemmas.Bool.{cases_lt}
 use Rattle.std.proofs.lemmas.List.{get_or_default, get_or_past}
-use Rattle.ff_theory.specs.Ring.{RingOps, IsCommRing, IsTested, Elements, power}
+use Rattle.ff_theory.specs.Ring.{RingOps, IsCommRing, Elements}
 use Rattle.ff_theory.specs.Lawful.{Field, Lawful, lawful_field}
-use Rattle.ff_theory.specs.Sum.{sum_below}
-use Rattle.ff_theory.specs.Poly.{coeff, trim, Poly, poly, polynomials}
-use Rattle.ff_theory.specs.Division.{size}
+use Rattle.ff_theory.specs.Poly.{coeff, Poly, poly, polynomials}
 use Rattle.ff_theory.specs.Eval.{plane_at}
-use Rattle.ff_theory.proofs.Solver.{◌⊕◌, ◌⊗◌, nil, unit, ring1, ring2, ring3, ring4}
-use Rattle.ff_theory.proofs.Series.{tail}
 use Rattle.ff_theory.proofs.Poly.{trim-coeff, polynomial_laws, polynomial_tests}
 use Rattle.ff_theory.proofs.Coeffs.{coeff-map, coeff-past}
-use Rattle.ff_theory.proofs.Division.{size_le, const}
-use Rattle.ff_theory.proofs.PolyMap.{polynomial_domain, not_same}
-use Rattle.ff_theory.proofs.Algebra.{Plane, row}
-use Rattle.ff_theory.proofs.Element.{algebra_of, algebra_is_ring, value_of, value_map, constant, over_of, over_one}
-use Rattle.ff_theory.proofs.Constants.{constant_map, plane_at-columns}
-use Rattle.ff_theory.proofs.Horner.{horner, horner-ext, horner-step, from_place}
+use Rattle.ff_theory.proofs.Division.{size_le}
+use Rattle.ff_theory.proofs.Algebra.{Plane}
+use Rattle.ff_theory.proofs.Element.{algebra_of, algebra_is_ring, constant}
+use Rattle.ff_theory.proofs.Constants.{plane_at-columns}
+use Rattle.ff_theory.proofs.Horner.{horner, horner-ext, from_place}
 use Rattle.ff_poly.specs.Words.{poly_of, plane_of}
-use Rattle.std.proofs.lemmas.List.Elements.{All-push}
-use Rattle.ff_elem.specs.declared.elem.Elem.{Elem}
-use Rattle.ff_elem.specs.Elem.{algebra_in, elem_of, IsElem}
 use Rattle.ff_subst.specs.Columns.{column_of}
 
 pub if_ok2 : {T E : Type 0} (r : Result T E) (P Q S : T → Type 0) → ((x : T) → P x → Q x → S x) → IfOk r P → IfOk r Q → IfOk r S
@@ -101,4 +93,3 @@ module _ (F : Field) (g : Plane F) where
       h ∙ ap (λ k. horner R X (from_place k (column_of F g Y N n)) (w - k)) z ∙ ap (horner R X (from_place 0 (column_of F g Y N n))) e
       ∙ horner-ext R laws X (from_place 0 (column_of F g Y N n)) (column_of F g Y N n) w (λ k l. let e : 0 + k ≡ k = omega arith in ap (column_of F g Y N n) e)
       ∙ sym (plane_at-columns F g X Y N w n rows columns)
-

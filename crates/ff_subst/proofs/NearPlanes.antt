@@ -5,16 +5,16 @@ use Rattle.ff_theory.specs.Lawful.{Domain, Field}
 use Rattle.ff_theory.specs.Sum.{sum_below}
 use Rattle.ff_theory.specs.Poly.{coeff, Poly, poly, polynomials}
 use Rattle.ff_theory.specs.Division.{size}
-use Rattle.ff_theory.proofs.Solver.{◌⊕◌, ◌⊗◌, neg, nil, ring2, ring3, ring4, ring6, mul_zero}
+use Rattle.ff_theory.proofs.Solver.{◌⊕◌, ◌⊗◌, ring3, ring4, mul_zero}
 use Rattle.ff_theory.proofs.Transfer.{IsMap}
 use Rattle.ff_theory.proofs.Poly.{trim-coeff, polynomial_laws, polynomial_tests}
 use Rattle.ff_theory.proofs.Sums.{sum-ext, sum-add, sum-mul}
-use Rattle.ff_theory.proofs.Division.{const, x, add_at, const_mul_at, size-add, size-neg, size-mul-le, size_le}
+use Rattle.ff_theory.proofs.Division.{x, add_at, const_mul_at, size-add, size-neg, size-mul-le, size_le}
 use Rattle.ff_theory.proofs.Evaluate.{is_eval, const_map}
 use Rattle.ff_theory.proofs.PolyMap.{polynomial_domain, not_same}
 use Rattle.ff_theory.proofs.Horner.{eval-horner, horner-sum}
 use Rattle.ff_theory.proofs.Algebra.{planes, Plane, row}
-use Rattle.ff_theory.proofs.Element.{algebra_of, algebra_is_ring, value_of, value_map, cancel_row, over_of, over_one, y_of}
+use Rattle.ff_theory.proofs.Element.{algebra_of, algebra_is_ring, value_of, value_map, cancel_row, y_of}
 use Rattle.ff_theory.proofs.ElementEuclid.{value-nonzero, zero_plane_size}
 use Rattle.ff_theory.specs.Divides.{Divides}
 use Rattle.ff_subst.specs.Near.{IsCongruent, IsNear, IsNearFactor}

@@ -5,14 +5,14 @@ use Rattle.std.proofs.lemmas.List.Elements.{All-push}
 use Rattle.std.proofs.lemmas.List.{get_or_append_left, get_or_push, length_push}
 use Rattle.ff_theory.specs.Ring.{RingOps, IsCommRing, Elements, power}
 use Rattle.ff_theory.specs.Lawful.{Domain, Field, Lawful, lawful_field}
-use Rattle.ff_theory.specs.Poly.{coeff, Poly, poly, polynomials}
+use Rattle.ff_theory.specs.Poly.{coeff, Poly, polynomials}
 use Rattle.ff_theory.specs.Division.{size, IsDivision}
 use Rattle.ff_theory.proofs.Solver.{◌⊗◌, ring3}
 use Rattle.ff_theory.proofs.Transfer.{IsMap}
 use Rattle.ff_theory.proofs.Poly.{polynomial_laws}
 use Rattle.ff_theory.proofs.Evaluate.{const_map}
 use Rattle.ff_theory.proofs.PolyMap.{polynomial_domain}
-use Rattle.ff_theory.proofs.Algebra.{planes, Plane, row}
+use Rattle.ff_theory.proofs.Algebra.{planes, row}
 use Rattle.ff_theory.proofs.Element.{algebra_is_ring, value_of, value_map, element_clear}
 use Rattle.ff_poly.specs.Words.{poly_of, IsPoly, plane_of, IsPlane, row_of}
 use Rattle.ff_theory.specs.Divides.{Divides}

@@ -1,16 +1,15 @@
 -- Values of elements at pairs.
-use Rattle.std.proofs.Common.{◌≡◌, List, [], ◌∷◌, sym, ◌∙◌, ap, refl}
-use Rattle.ff_theory.specs.Ring.{RingOps, IsCommRing, Elements}
-use Rattle.ff_theory.specs.Lawful.{Field, Lawful, lawful_field}
+use Rattle.std.proofs.Common.{◌≡◌, [], ◌∷◌, sym, ◌∙◌, ap, refl}
+use Rattle.ff_theory.specs.Ring.{RingOps, IsCommRing}
+use Rattle.ff_theory.specs.Lawful.{Field}
 use Rattle.ff_theory.specs.Poly.{Poly, poly, polynomials}
 use Rattle.ff_theory.specs.Eval.{eval}
-use Rattle.ff_theory.proofs.Solver.{◌⊗◌, unit, ring1, ring2, ring3, mul_zero}
+use Rattle.ff_theory.proofs.Solver.{◌⊗◌, unit, ring1, ring3, mul_zero}
 use Rattle.ff_theory.proofs.Poly.{polynomial_laws, polynomial_tests}
 use Rattle.ff_theory.proofs.Evaluate.{eval_map, eval-const}
 use Rattle.ff_theory.proofs.Algebra.{Plane}
 use Rattle.ff_theory.proofs.Element.{algebra_of, algebra_is_ring, constant}
 use Rattle.ff_theory.proofs.Constants.{constant_map}
-use Rattle.ff_poly.specs.Words.{poly_of, plane_of}
 use Rattle.ff_data.specs.Substitution.{poly_at, plane_at_pair, IsDefined, IsValue}
 
 module _ (F : Field) (g : Plane F) where

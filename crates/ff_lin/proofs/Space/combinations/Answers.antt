@@ -1,4 +1,4 @@
-use Rattle.std.proofs.Common.{◌≡◌, ℕ, ◌<◌, [], length, map, get_or, sym, ◌∙◌, ap, arith, subst, Vec, Global}
+use Rattle.std.proofs.Common.{[], map, sym, ◌∙◌, ap, arith, Vec, Global}
 use Rattle.std.proofs.lemmas.List.{get_or-map}
 use Rattle.ff_lin.specs.Space.{SpaceParts, vector_of, combination_of, combinations_of}
 use Rattle.ff_lin.proofs.Placed.{basis_vectors}

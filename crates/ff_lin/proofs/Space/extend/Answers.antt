@@ -1,4 +1,4 @@
-use Rattle.std.proofs.Common.{◌≡◌, ℕ, ◌+◌, ◌<◌, ◌≤◌, [], ◌∷◌, ◌++◌, length, map, get_or, refl, sym, ◌∙◌, ap, arith, subst, Vec, Global}
+use Rattle.std.proofs.Common.{[], ◌++◌, length, map, refl, sym, ◌∙◌, ap, arith, subst, Vec, Global}
 use Rattle.std.proofs.lemmas.List.{get_or-map, length-map, length-append}
 use Rattle.ff_lin.specs.Span.{SameSpan}
 use Rattle.ff_lin.specs.Space.{vectors_of}

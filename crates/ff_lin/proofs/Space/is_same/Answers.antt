@@ -1,4 +1,4 @@
-use Rattle.std.proofs.Common.{◌≡◌, ℕ, ◌<◌, length, map, sym, ◌∙◌, ap, arith, Vec, Global}
+use Rattle.std.proofs.Common.{length, ◌∙◌, ap, arith, Vec, Global}
 use Rattle.std.proofs.lemmas.List.{length-map}
 use Rattle.ff_lin.specs.Space.{SpaceParts}
 use Rattle.ff_lin.proofs.Placed.{basis_vectors}

@@ -1,6 +1,6 @@
-use Rattle.std.proofs.Common.{◌≡◌, length, map, subst, sym, Vec, Global, IfOk}
+use Rattle.std.proofs.Common.{length, map, Vec, Global}
 use Rattle.std.proofs.lemmas.List.{length-map}
-use Rattle.ff_lin.specs.Space.{SpaceParts, HasExactly, IsOrthogonal}
+use Rattle.ff_lin.specs.Space.{HasExactly, IsOrthogonal}
 use Rattle.ff_lin.specs.Kernel.{IsSolvedBy}
 use Rattle.ff_lin.proofs.Relations.{kernel_code}
 use Rattle.ff_theory.proofs.Results.{ok_map}

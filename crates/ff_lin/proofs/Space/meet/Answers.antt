@@ -1,4 +1,4 @@
-use Rattle.std.proofs.Common.{◌≡◌, ℕ, ◌↔◌, length, map, refl, sym, ◌∙◌, ap, Vec, Global}
+use Rattle.std.proofs.Common.{ℕ, ◌↔◌, length, map, refl, sym, ◌∙◌, ap, Vec, Global}
 use Rattle.std.proofs.lemmas.List.{length-map}
 use Rattle.ff_lin.specs.Span.{SameSpan}
 use Rattle.ff_lin.specs.Space.{SpaceParts, InSpace, vectors_of, combinations_of}

@@ -1,4 +1,4 @@
-use Rattle.std.proofs.Common.{◌≡◌, length, map, ◌∙◌, subst, sym, Vec, Global}
+use Rattle.std.proofs.Common.{map, ◌∙◌, subst, sym, Vec, Global}
 use Rattle.ff_lin.specs.Space.{IsVector}
 use Rattle.ff_lin.specs.Kernel.{mirrored_columns}
 use Rattle.ff_lin.proofs.Inserted.{grow-step}

@@ -1,7 +1,5 @@
-use Rattle.std.proofs.Common.{◌≡◌, ℕ, ◌<◌, [], length, map, get_or, reverse, ◌∙◌, ap, arith, subst, sym, Vec, Global}
-use Rattle.std.proofs.lemmas.List.{get_or-map}
-use Rattle.ff_lin.specs.Space.{vector_of, IsVector}
-use Rattle.ff_lin.specs.Kernel.{mirror, mirrored_rows}
+use Rattle.std.proofs.Common.{map, reverse, ◌∙◌, ap, arith, Vec, Global}
+use Rattle.ff_lin.specs.Kernel.{mirrored_rows}
 use Rattle.ff_lin.proofs.Inserted.{grow-step}
 use Rattle.ff_lin.proofs.Mirror.{reversed_code}
 use Rattle.ff_lin.proofs.Space.mirrored_span.Goals as goal

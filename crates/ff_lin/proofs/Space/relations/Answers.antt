@@ -1,4 +1,4 @@
-use Rattle.std.proofs.Common.{length, map, Vec, Global}
+use Rattle.std.proofs.Common.{map, Vec, Global}
 use Rattle.ff_lin.specs.Space.{HasExactly, IsRelation}
 use Rattle.ff_lin.specs.Kernel.{IsSolvedBy}
 use Rattle.ff_lin.proofs.Relations.{relations_code}

@@ -1,4 +1,4 @@
-use Rattle.std.proofs.Common.{◌≡◌, ℕ, ◌+◌, ◌<◌, [], ◌∷◌, ◌++◌, length, map, get_or, ◌∙◌, ap, arith, subst, sym, All, Vec, Global}
+use Rattle.std.proofs.Common.{[], map, ◌∙◌, ap, arith, subst, sym, All, Vec, Global}
 use Rattle.std.proofs.lemmas.List.Elements.{All-push}
 use Rattle.std.proofs.lemmas.List.{get_or-map}
 use Rattle.ff_lin.specs.Space.{vector_of, vectors_of, IsVector, rest_of}

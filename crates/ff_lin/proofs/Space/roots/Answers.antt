@@ -1,4 +1,4 @@
-use Rattle.std.proofs.Common.{◌≡◌, length, map, refl, ◌∙◌, ap, Vec, Global}
+use Rattle.std.proofs.Common.{map, refl, ◌∙◌, ap, Vec, Global}
 use Rattle.ff_lin.specs.Space.{SpaceParts}
 use Rattle.ff_lin.proofs.Placed.{basis_vectors}
 use Rattle.ff_lin.proofs.Relations.{roots_code}

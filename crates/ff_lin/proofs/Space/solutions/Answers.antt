@@ -1,4 +1,4 @@
-use Rattle.std.proofs.Common.{◌≡◌, ℕ, length, ◌∙◌, ap, arith, subst, sym}
+use Rattle.std.proofs.Common.{length, ◌∙◌, ap, arith, subst}
 use Rattle.ff_lin.specs.Span.{SameSpan}
 use Rattle.ff_lin.specs.Space.{SpaceParts, vectors_of}
 use Rattle.ff_lin.specs.Kernel.{null_of}

@@ -1,4 +1,4 @@
-use Rattle.std.proofs.Common.{◌≡◌, ℕ, ◌↔◌, ◌++◌, length, map, refl, sym, ◌∙◌, ap, subst, Vec, Global}
+use Rattle.std.proofs.Common.{ℕ, ◌↔◌, ◌++◌, map, ◌∙◌, ap, subst, Vec, Global}
 use Rattle.ff_lin.specs.Space.{SpaceParts, InSpace, SameSpace, IsSum}
 use Rattle.ff_lin.proofs.Placed.{basis_vectors}
 use Rattle.ff_theory.proofs.Results.{ok_map}

@@ -1,4 +1,4 @@
-use Rattle.std.proofs.Common.{◌≡◌, ℕ, length, refl, sym, ◌∙◌, ap}
+use Rattle.std.proofs.Common.{refl, ◌∙◌, ap}
 use Rattle.std.proofs.lemmas.List.{with_items_is}
 use Rattle.ff_theory.proofs.Solver.{◌⊗◌, neg, unit, ring1}
 use Rattle.ff_lin.specs.Space.{vector_of}

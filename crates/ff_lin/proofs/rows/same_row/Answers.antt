@@ -1,4 +1,4 @@
-use Rattle.std.proofs.Common.{◌≡◌, ℕ, ◌<◌, ◌≤◌, length, refl, sym, ◌∙◌, arith}
+use Rattle.std.proofs.Common.{refl, sym, ◌∙◌, arith}
 use Rattle.ff_lin.proofs.Compare.{row-next, row-differs, row-all}
 use Rattle.ff_lin.proofs.rows.same_row.Goals as goal
 

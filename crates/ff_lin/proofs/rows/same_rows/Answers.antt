@@ -1,4 +1,4 @@
-use Rattle.std.proofs.Common.{◌≡◌, ℕ, ◌<◌, length, sym, ◌∙◌, arith, Vec, Global}
+use Rattle.std.proofs.Common.{arith, Vec, Global}
 use Rattle.ff_lin.proofs.Compare.{rows-next, rows-differ, true-is-false}
 use Rattle.ff_lin.proofs.rows.same_rows.Goals as goal
 

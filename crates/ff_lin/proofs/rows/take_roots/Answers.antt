@@ -1,10 +1,9 @@
-use Rattle.std.proofs.Common.{◌≡◌, ℕ, ◌+◌, ◌<◌, ◌≤◌, ◌⊎◌, inl, inr, length, get_or, set, refl, sym, ◌∙◌, ap, arith, subst, All}
+use Rattle.std.proofs.Common.{◌+◌, ◌<◌, length, refl, ◌∙◌, arith}
 use Rattle.std.proofs.lemmas.List.Elements.{All-set}
 use Rattle.std.proofs.lemmas.List.{length-set}
-use Rattle.ff_theory.specs.Ring.{IsElement, power}
-use Rattle.ff_lin.specs.Space.{vector_of, frobenius}
+use Rattle.ff_theory.specs.Ring.{IsElement}
+use Rattle.ff_lin.specs.Space.{vector_of}
 use Rattle.ff_theory.proofs.InPlace.{written-above}
-use Rattle.ff_lin.proofs.Entries.{entry}
 use Rattle.ff_lin.proofs.Combine.{roots-all, roots-below}
 use Rattle.ff_lin.proofs.rows.take_roots.Goals as goal
 

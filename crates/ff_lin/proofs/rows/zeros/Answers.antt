@@ -1,7 +1,6 @@
-use Rattle.std.proofs.Common.{◌≡◌, ℕ, ◌+◌, ◌<◌, ◌≤◌, length, map, sym, ◌∙◌, ap, arith, subst, All}
+use Rattle.std.proofs.Common.{sym, ◌∙◌, ap, arith, subst, All}
 use Rattle.std.proofs.lemmas.List.Elements.{All-push}
 use Rattle.ff_theory.specs.Ring.{IsElement}
-use Rattle.ff_theory.specs.Poly.{coeff}
 use Rattle.ff_theory.proofs.Coeffs.{coeff-push}
 use Rattle.ff_lin.specs.Space.{vector_of}
 use Rattle.ff_lin.proofs.Combine.{vector-zeros}

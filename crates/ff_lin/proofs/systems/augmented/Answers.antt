@@ -1,4 +1,4 @@
-use Rattle.std.proofs.Common.{◌≡◌, ℕ, suc, ◌+◌, ◌<◌, [], ◌∷◌, ◌++◌, length, map, get_or, sym, ◌∙◌, ap, arith, subst, All, Vec, Global}
+use Rattle.std.proofs.Common.{◌≡◌, suc, [], map, sym, ◌∙◌, ap, arith, subst, All, Vec, Global}
 use Rattle.std.proofs.lemmas.List.Elements.{All-push}
 use Rattle.std.proofs.lemmas.List.{get_or-map}
 use Rattle.ff_lin.specs.Space.{vector_of, vectors_of, IsVector}

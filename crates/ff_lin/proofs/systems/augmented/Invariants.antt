@@ -1,4 +1,4 @@
-use Rattle.std.proofs.Common.{◌≡◌, ℕ, suc, ◌<◌, ◌+◌, length, map, All}
+use Rattle.std.proofs.Common.{◌≡◌, ℕ, suc, ◌<◌, length, map, All}
 use Rattle.ff_lin.specs.Space.{vectors_of, IsVector}
 use Rattle.ff_lin.specs.Kernel.{augmented_of}
 use Rattle.ff_lin.proofs.systems.augmented.Given as goal

@@ -1,4 +1,3 @@
-use Rattle.std.proofs.Common.{◌≡◌, ◌<◌, length, sym, ◌∙◌, ap, arith}
 use Rattle.ff_poly.proofs.Size.{poly_fits}
 use Rattle.ff_elem.proofs.Size.{elem_small}
 use Rattle.ff_elem.proofs.PolyLemmas.{nonzero-length}

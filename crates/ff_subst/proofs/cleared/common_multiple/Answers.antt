@@ -1,4 +1,3 @@
-use Rattle.std.proofs.Common.{All, sym, subst, zero, suc, arith}
 use Rattle.ff_theory.specs.Lawful.{lawful_field}
 use Rattle.ff_theory.specs.Poly.{polynomials}
 use Rattle.ff_theory.proofs.Element.{lowest_nonzero}

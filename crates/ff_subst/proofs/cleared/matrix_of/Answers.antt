@@ -1,4 +1,4 @@
-use Rattle.std.proofs.Common.{◌≡◌, ℕ, ◌<◌, ◌+◌, ◌-◌, length, get_or, [], sym, ◌∙◌, ap, subst, arith}
+use Rattle.std.proofs.Common.{◌≡◌, ℕ, ◌<◌, length, get_or, [], sym, ◌∙◌, ap, subst, arith}
 use Rattle.ff_theory.specs.Ring.{power}
 use Rattle.ff_elem.specs.declared.elem.Elem.{Elem}
 use Rattle.ff_elem.specs.Elem.{algebra_in, elem_of, y_in}

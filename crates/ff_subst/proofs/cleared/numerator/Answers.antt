@@ -1,7 +1,6 @@
-use Rattle.std.proofs.Common.{◌≡◌, All, sym, ◌∙◌, ap, subst}
+use Rattle.std.proofs.Common.{◌≡◌, ◌∙◌, ap}
 use Rattle.ff_theory.specs.Poly.{polynomials}
-use Rattle.ff_poly.specs.Words.{poly_of, plane_of, row_of, IsPoly}
-use Rattle.ff_poly.proofs.Size.{poly_fits}
+use Rattle.ff_poly.specs.Words.{poly_of, plane_of, row_of}
 use Rattle.ff_subst.specs.Cleared.{IsNumerator}
 use Rattle.ff_theory.proofs.Results.{ok_map}
 use Rattle.ff_subst.proofs.Numerators.{is-numerator}

@@ -1,7 +1,7 @@
-use Rattle.std.proofs.Common.{◌≡◌, ℕ, ◌<◌, ◌+◌, All, List, length, get_or, [], sym, ◌∙◌, ap, subst, arith}
+use Rattle.std.proofs.Common.{All, List, length, get_or, [], sym, ◌∙◌, ap, subst, arith}
 use Rattle.std.proofs.lemmas.List.{get_or_default}
 use Rattle.ff_theory.specs.Poly.{polynomials}
-use Rattle.ff_poly.specs.Words.{poly_of, IsPoly, IsPlane}
+use Rattle.ff_poly.specs.Words.{poly_of, IsPlane}
 use Rattle.ff_theory.specs.Divides.{Divides}
 use Rattle.ff_poly.proofs.Size.{poly_fits}
 use Rattle.ff_elem.specs.declared.elem.Elem.{Elem}

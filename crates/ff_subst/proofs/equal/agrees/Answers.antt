@@ -1,4 +1,4 @@
-use Rattle.std.proofs.Common.{◌≡◌, ◌≤◌, ℕ, All, List, [], ◌∷◌, length, get_or, max, IsTrue, IfOk, ◌↔◌, refl, sym, ◌∙◌, ap, subst, arith}
+use Rattle.std.proofs.Common.{◌≡◌, All, [], length, IsTrue, ◌↔◌, refl, sym, ◌∙◌, ap, subst, arith}
 use Rattle.ff_theory.specs.Ring.{power}
 use Rattle.ff_theory.specs.Lawful.{lawful_field}
 use Rattle.ff_theory.specs.Poly.{polynomials}
@@ -8,7 +8,7 @@ use Rattle.ff_poly.proofs.Size.{poly_fits}
 use Rattle.ff_elem.specs.Elem.{algebra_in, elem_of, poly_in}
 use Rattle.ff_elem.proofs.Size.{elem_small}
 use Rattle.ff_data.specs.Substitution.{poly_at, plane_at_pair}
-use Rattle.ff_subst.specs.Near.{Near, NearFactor}
+use Rattle.ff_subst.specs.Near.{Near}
 use Rattle.ff_subst.specs.Cleared.{IsMatrix, ArePowers}
 use Rattle.ff_theory.proofs.Results.{ok_map}
 use Rattle.ff_subst.proofs.Columns.{single-wide, wide-at}

@@ -1,17 +1,16 @@
-use Rattle.std.proofs.Common.{◌≡◌, ◌≤◌, ℕ, All, List, [], ◌∷◌, length, get_or, max, IsTrue, IfOk, ◌↔◌, sym, ◌∙◌, ap, subst, arith}
+use Rattle.std.proofs.Common.{◌≡◌, [], IsTrue, ◌↔◌, arith}
 use Rattle.ff_theory.specs.Ring.{power}
 use Rattle.ff_theory.specs.Lawful.{lawful_field}
 use Rattle.ff_theory.specs.Poly.{polynomials}
-use Rattle.ff_poly.specs.Words.{poly_of, plane_of, row_of, IsPoly, IsPlane}
+use Rattle.ff_poly.specs.Words.{poly_of, plane_of, row_of}
 use Rattle.ff_theory.specs.Divides.{Divides}
 use Rattle.ff_poly.proofs.Size.{poly_fits}
 use Rattle.ff_elem.specs.Elem.{algebra_in, elem_of, poly_in}
 use Rattle.ff_elem.proofs.Size.{elem_small}
-use Rattle.ff_data.specs.Substitution.{poly_at, plane_at_pair}
-use Rattle.ff_subst.specs.Near.{Near, NearFactor}
-use Rattle.ff_subst.specs.Cleared.{IsMatrix, ArePowers}
+use Rattle.ff_data.specs.Substitution.{plane_at_pair}
+use Rattle.ff_subst.specs.Cleared.{ArePowers}
 use Rattle.ff_theory.proofs.Results.{ok_map}
-use Rattle.ff_subst.proofs.Numerators.{matrix-modulo, each-one}
+use Rattle.ff_subst.proofs.Numerators.{matrix-modulo}
 use Rattle.ff_subst.proofs.Evaluation.{vanish-needed, vanish-enough}
 use Rattle.ff_subst.proofs.equal.vanishes.Goals as goal
 

@@ -1,6 +1,5 @@
-use Rattle.std.proofs.Common.{rules, ◌≡◌, true, false, sym, ◌∙◌, ap, subst, IsTrue, IfOk, ◌↔◌}
-use Rattle.std.specs.List.{All}
-use Rattle.ff_poly.specs.Words.{IsPoly, IsPlane}
+use Rattle.std.proofs.Common.{rules, ◌≡◌, true, sym, subst, IsTrue, ◌↔◌}
+use Rattle.ff_poly.specs.Words.{IsPlane}
 use Rattle.ff_data.specs.Pairs.{IsPair, Satisfies, Undoes, IsInversePair}
 use Rattle.ff_theory.proofs.Results.{ok_map}
 use Rattle.ff_subst.proofs.inverse.is_inverse.Goals as goal

@@ -1,13 +1,11 @@
-use Rattle.std.proofs.Common.{◌≡◌, ◌≤◌, ◌<◌, ℕ, All, [], ◌∷◌, length, true, max, IsTrue, IfOk, ◌↔◌, refl, sym, ◌∙◌, ap, subst, arith}
+use Rattle.std.proofs.Common.{◌≡◌, All, [], length, true, IsTrue, ◌↔◌, sym, ◌∙◌, ap, subst, arith}
 use Rattle.ff_theory.specs.Lawful.{lawful_field}
-use Rattle.ff_poly.specs.Words.{poly_of, plane_of, IsPoly, IsPlane}
+use Rattle.ff_poly.specs.Words.{plane_of, IsPoly}
 use Rattle.ff_poly.proofs.Size.{poly_fits}
 use Rattle.ff_elem.specs.Elem.{algebra_in, elem_of}
-use Rattle.ff_elem.proofs.Size.{elem_small}
 use Rattle.ff_elem.proofs.RowLemmas.{zero-poly}
-use Rattle.ff_data.specs.Substitution.{poly_at, plane_at_pair}
+use Rattle.ff_data.specs.Substitution.{plane_at_pair}
 use Rattle.ff_subst.proofs.Columns.{if_ok2}
-use Rattle.ff_subst.proofs.Numerators.{each-one}
 use Rattle.ff_data.specs.Pairs.{Satisfies}
 use Rattle.ff_subst.proofs.inverse.satisfies.Goals as goal
 

@@ -1,12 +1,10 @@
-use Rattle.std.proofs.Common.{◌≡◌, ◌≤◌, ◌<◌, ℕ, All, [], ◌∷◌, length, true, max, IsTrue, IfOk, ◌↔◌, refl, sym, ◌∙◌, ap, subst, arith}
+use Rattle.std.proofs.Common.{All, length, sym, ◌∙◌, ap, subst, arith}
 use Rattle.ff_theory.specs.Lawful.{lawful_field}
-use Rattle.ff_poly.specs.Words.{poly_of, plane_of, IsPoly, IsPlane}
+use Rattle.ff_poly.specs.Words.{poly_of, plane_of, IsPoly}
 use Rattle.ff_poly.proofs.Size.{poly_fits}
-use Rattle.ff_elem.specs.Elem.{algebra_in, elem_of}
+use Rattle.ff_elem.specs.Elem.{elem_of}
 use Rattle.ff_elem.proofs.Size.{elem_small}
-use Rattle.ff_elem.proofs.RowLemmas.{zero-poly}
-use Rattle.ff_data.specs.Substitution.{poly_at, plane_at_pair}
-use Rattle.ff_theory.proofs.Results.{ok_map}
+use Rattle.ff_data.specs.Substitution.{plane_at_pair}
 use Rattle.ff_subst.proofs.Numerators.{each-one}
 use Rattle.ff_elem.specs.Inverse.{IsZeroDivisor, DividesZero}
 use Rattle.ff_subst.proofs.PairValues.{value_is, no_value, row-at}

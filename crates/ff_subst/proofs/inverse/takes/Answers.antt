@@ -1,14 +1,12 @@
-use Rattle.std.proofs.Common.{◌≡◌, ◌≤◌, ◌<◌, ℕ, All, [], ◌∷◌, length, true, false, max, IsTrue, IfOk, ◌↔◌, refl, sym, ◌∙◌, ap, subst, arith}
+use Rattle.std.proofs.Common.{length, false, IsTrue, ◌↔◌, refl, ap, arith}
 use Rattle.ff_theory.specs.Lawful.{lawful_field}
-use Rattle.ff_poly.specs.Words.{poly_of, plane_of, IsPoly, IsPlane}
+use Rattle.ff_poly.specs.Words.{poly_of, plane_of}
 use Rattle.ff_poly.proofs.Size.{poly_fits}
-use Rattle.ff_elem.specs.Elem.{algebra_in, elem_of}
+use Rattle.ff_elem.specs.Elem.{elem_of}
 use Rattle.ff_elem.proofs.Size.{elem_small}
 use Rattle.ff_elem.proofs.RowLemmas.{zero-poly}
-use Rattle.ff_data.specs.Substitution.{poly_at, plane_at_pair}
 use Rattle.ff_theory.proofs.Results.{ok_map}
 use Rattle.ff_theory.proofs.Booleans.{differ}
-use Rattle.ff_subst.proofs.Numerators.{each-one}
 use Rattle.ff_data.specs.Pairs.{HasValue, ValueIs}
 use Rattle.ff_subst.proofs.PairValues.{defined, value-of, of-value}
 use Rattle.ff_subst.proofs.inverse.takes.Goals as goal

@@ -1,6 +1,6 @@
-use Rattle.std.proofs.Common.{◌≡◌, true, false, sym, ◌∙◌, ap, subst, IsTrue, IfOk, ◌↔◌}
+use Rattle.std.proofs.Common.{◌≡◌, true, sym, subst, IsTrue, ◌↔◌}
 use Rattle.ff_theory.specs.Lawful.{lawful_field}
-use Rattle.ff_theory.proofs.Element.{x_of, y_of}
+use Rattle.ff_theory.proofs.Element.{x_of}
 use Rattle.ff_poly.specs.Words.{plane_of}
 use Rattle.ff_elem.specs.Elem.{elem_of}
 use Rattle.ff_data.specs.Pairs.{ValueIs, Undoes}

@@ -1,4 +1,4 @@
-use Rattle.std.proofs.Common.{◌≡◌, true, false, length, get_or, nat_eq, sym, ◌∙◌, ap, subst, refl, arith, below_more, [], IsTrue}
+use Rattle.std.proofs.Common.{◌≡◌, true, length, nat_eq, ◌∙◌, subst, refl, arith, below_more, []}
 use Rattle.std.proofs.lemmas.Bool.{eqb-true, eq-eqb}
 use Rattle.std.proofs.lemmas.List.{get_or_default}
 use Rattle.ff_theory.specs.Poly.{polynomials}

@@ -1,11 +1,9 @@
-use Rattle.std.proofs.Common.{◌≡◌, refl, ◌∙◌, ap, subst, sym}
+use Rattle.std.proofs.Common.{refl}
 use Rattle.ff_theory.specs.Lawful.{lawful_field}
 use Rattle.ff_theory.specs.Poly.{polynomials}
 use Rattle.ff_theory.proofs.PolyMap.{polynomial_domain}
 use Rattle.ff_theory.proofs.Poly.{polynomial_laws}
 use Rattle.ff_poly.specs.Words.{poly_of, plane_of, row_of}
-use Rattle.ff_subst.specs.Near.{IsCongruent}
-use Rattle.ff_theory.proofs.Results.{ok_map}
 use Rattle.ff_subst.proofs.Congruences.{congruent-equal}
 use Rattle.ff_subst.proofs.near.remainder.Goals as goal
 

@@ -1,4 +1,4 @@
-use Rattle.std.proofs.Common.{◌≡◌, All, [], sym, ◌∙◌, subst, arith}
+use Rattle.std.proofs.Common.{All, sym, ◌∙◌, subst, arith}
 use Rattle.ff_poly.specs.Words.{IsPoly}
 use Rattle.ff_poly.proofs.Size.{poly_fits}
 use Rattle.ff_subst.proofs.near.zero_plane.Goals as goal

@@ -1,7 +1,7 @@
 use Rattle.std.proofs.Common.{◌≡◌, length, map, get_or, [], ◌∷◌, sym, ◌∙◌, ap, ap₂, subst, arith}
 use Rattle.std.proofs.lemmas.List.{get_or_default}
 use Rattle.ff_theory.specs.Poly.{coeff, poly, polynomials}
-use Rattle.ff_poly.specs.Words.{poly_of, plane_of, row_of, IsPoly, IsPlane}
+use Rattle.ff_poly.specs.Words.{plane_of, row_of, IsPoly, IsPlane}
 use Rattle.ff_poly.proofs.Size.{poly_fits}
 use Rattle.ff_subst.specs.Columns.{combination, constant_at}
 use Rattle.ff_subst.proofs.Evaluation.{combination-step}

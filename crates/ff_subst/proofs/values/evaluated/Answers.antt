@@ -1,5 +1,5 @@
-use Rattle.std.proofs.Common.{◌≡◌, ℕ, suc, ◌<◌, ◌-◌, length, sym, ◌∙◌, ap, subst, refl, arith}
-use Rattle.ff_theory.specs.Ring.{RingOps, power}
+use Rattle.std.proofs.Common.{◌≡◌, ℕ, ◌<◌, ◌-◌, length, sym, subst, refl, arith}
+use Rattle.ff_theory.specs.Ring.{power}
 use Rattle.ff_theory.specs.Lawful.{lawful_field}
 use Rattle.ff_theory.proofs.Horner.{horner, from_place}
 use Rattle.ff_theory.proofs.Solver.{mul_zero}

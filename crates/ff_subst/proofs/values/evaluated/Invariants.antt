@@ -1,4 +1,4 @@
-use Rattle.std.proofs.Common.{◌≡◌, ◌≤◌, ◌-◌, length}
+use Rattle.std.proofs.Common.{◌≤◌, ◌-◌, length}
 use Rattle.ff_theory.specs.Ring.{power}
 use Rattle.ff_theory.specs.Lawful.{lawful_field}
 use Rattle.ff_theory.proofs.Horner.{horner, from_place}

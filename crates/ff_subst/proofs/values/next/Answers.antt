@@ -1,7 +1,6 @@
-use Rattle.std.proofs.Common.{◌≡◌, ◌≤◌, All, length, sym, ◌∙◌, ap, subst, arith}
+use Rattle.std.proofs.Common.{All, length, sym, ap, subst, arith}
 use Rattle.ff_theory.specs.Lawful.{lawful_field}
-use Rattle.ff_theory.specs.Poly.{polynomials}
-use Rattle.ff_poly.specs.Words.{poly_of, plane_of, IsPoly, IsPlane}
+use Rattle.ff_poly.specs.Words.{plane_of, IsPoly, IsPlane}
 use Rattle.ff_poly.proofs.Size.{poly_fits}
 use Rattle.ff_elem.specs.Elem.{algebra_in, elem_of, poly_in}
 use Rattle.ff_subst.specs.Columns.{column_of}

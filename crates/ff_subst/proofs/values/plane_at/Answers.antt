@@ -1,7 +1,7 @@
-use Rattle.std.proofs.Common.{◌≡◌, [], refl, sym, ◌∙◌, ap, subst, arith}
+use Rattle.std.proofs.Common.{◌≡◌, sym, ◌∙◌, subst}
 use Rattle.ff_theory.specs.Ring.{power}
 use Rattle.ff_theory.specs.Lawful.{lawful_field}
-use Rattle.ff_poly.specs.Words.{plane_of, IsPoly}
+use Rattle.ff_poly.specs.Words.{plane_of}
 use Rattle.ff_poly.proofs.Size.{poly_fits}
 use Rattle.ff_elem.specs.Elem.{algebra_in, elem_of, poly_in, over_in}
 use Rattle.ff_elem.proofs.Size.{elem_small}

@@ -1,4 +1,4 @@
-use Rattle.std.proofs.Common.{◌≤◌, length, arith, ap}
+use Rattle.std.proofs.Common.{length, arith, ap}
 use Rattle.ff_subst.proofs.Columns.{short_rows, wider}
 use Rattle.ff_subst.proofs.values.width.Goals as goal
 
