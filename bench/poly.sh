@@ -1,7 +1,8 @@
 #!/bin/sh
-# Times products of two polynomials of degree 50 and 500 over 97 elements, and quotients of such a product by a factor,
-# and FLINT's nmod_poly beside it where it is installed (Debian: libflint-dev). The program is built in a folder of
-# its own, which is removed at the end: the files of bench/poly become a crate there, over copies of the libraries.
+# Times products of two polynomials of degree 50, 500 and 2000 over 97 elements, and quotients of
+# such a product by a factor, and FLINT's nmod_poly beside it where it is installed (Debian:
+# libflint-dev). The program is built in a folder of its own, which is removed at the end: the files
+# of bench/poly become a crate there, over copies of the libraries.
 set -eu
 top=$(cd "$(dirname "$0")/.." && pwd)
 work=$(mktemp -d)

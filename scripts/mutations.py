@@ -1,9 +1,10 @@
 #!/usr/bin/env python3
-"""Runs the built program on every front of the valid texts in examples/ and on 10,000 mutated ones, and demands a named answer each time.
+"""Runs the proved program on every prefix of the examples and on 10,000 mutated inputs.
 
-A named answer is one of the texts of `check` with the exit status that belongs to it. Where an answer names the place of a syntax fault,
-the script demands more: the place is within the input, and the same input cut there or one byte behind it tells of the same place or goes on.
-Seeds are fixed. Usage, after `./ff check < examples/check.txt` has built the program: scripts/mutations.py [NUMBER]
+It demands a named answer each time: one of the texts of `check`, with its exit status.
+Where an answer names the place of a syntax fault, it demands more: the place is within the input,
+and the same input cut there, or one byte after it, tells of the same place or goes on.
+Seeds are fixed. Usage, after ./ff prove: scripts/mutations.py [NUMBER]. Needs Python 3.8.
 """
 import random
 import re
@@ -13,7 +14,9 @@ from concurrent.futures import ThreadPoolExecutor
 from pathlib import Path
 
 TOP = Path(__file__).resolve().parent.parent
-PROGRAM = TOP / "crates" / "ff_cli" / "out" / "ff_cli"
+PROGRAM = subprocess.run([TOP / "ff", "where"], capture_output=True, text=True).stdout.strip()
+if not PROGRAM:
+    sys.exit("there is no proved program: call ./ff prove")
 ALPHABET = b"0123456789xyXYUVpfg+-*^()/ \t\r\n" + bytes([0, 33, 65, 122, 200, 255])
 ANSWERS = [
     (0, re.compile(rb"(yes|no)\n")),
@@ -27,7 +30,7 @@ ANSWERS = [
 
 
 def run(data):
-    done = subprocess.run([str(PROGRAM), "check"], input=data, capture_output=True, timeout=60)
+    done = subprocess.run([PROGRAM, "check"], input=data, capture_output=True, timeout=60)
     return done.returncode, done.stdout, done.stderr
 
 
@@ -45,11 +48,11 @@ def complaint(data):
     if at is None:
         return None
     if at > len(data):
-        return f"place {at} is behind the end"
-    # Some text begins with the first `at` bytes, so what is wrong with them alone is at most their end.
-    front = place(run(data[:at])[1])
-    if front is not None and front != at:
-        return f"the first {at} bytes are refused at {front}"
+        return f"place {at} is past the end"
+    # Some text begins with the first `at` bytes, so what is wrong with them is at most their end.
+    prefix = place(run(data[:at])[1])
+    if prefix is not None and prefix != at:
+        return f"the first {at} bytes are refused at {prefix}"
     # No text begins with one byte more.
     if at < len(data) and place(run(data[: at + 1])[1]) != at:
         return f"the first {at + 1} bytes are not refused at {at}"
@@ -79,7 +82,7 @@ def main():
     texts = [path.read_bytes() for path in sorted((TOP / "examples").glob("check*.txt"))]
     source = random.Random(20261201)
     inputs = [text[:n] for text in texts for n in range(len(text) + 1)]
-    fronts = len(inputs)
+    prefixes = len(inputs)
     inputs += [mutated(source, texts) for _ in range(number)]
     wrong = 0
     with ThreadPoolExecutor(4) as pool:
@@ -87,7 +90,7 @@ def main():
             if trouble:
                 wrong += 1
                 print(f"{data!r}: {trouble}")
-    print(f"{fronts} fronts and {number} mutated inputs: {wrong} without a named answer")
+    print(f"{prefixes} prefixes and {number} mutated inputs: {wrong} without a named answer")
     sys.exit(1 if wrong else 0)
 
 

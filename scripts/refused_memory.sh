@@ -1,10 +1,10 @@
 #!/bin/bash
-# Runs the built program on each example once for every allocation that it makes, which is refused, and demands each
-# time the answer that ample memory gives, or the exit status 6 with nothing written. Build the program first:
-# ./ff check < examples/check.txt
+# Runs the proved program on each example once for every allocation that it makes, which is refused,
+# and demands each time the answer that ample memory gives, or the exit status 6 with nothing
+# written. Usage, after ./ff prove: scripts/refused_memory.sh. Needs cc.
 set -u
 top=$(cd "$(dirname "$0")/.." && pwd)
-program=$top/crates/ff_cli/out/ff_cli
+program=$("$top/ff" where) || { echo "there is no proved program: call ./ff prove" >&2; exit 1; }
 work=$(mktemp -d)
 trap 'rm -rf "$work"' EXIT
 cc -shared -fPIC -O1 -o "$work/refuse.so" "$top/scripts/refused_memory/refuse.c" -ldl || exit 1
@@ -15,10 +15,11 @@ for input in "$top"/examples/check*.txt; do
     refused=0
     number=0
     same=0
-    # Ten runs in a row that the refusal did not change are behind the last allocation.
+    # Ten runs in a row that the refusal did not change are past the last allocation.
     while [ "$same" -lt 10 ]; do
         number=$((number + 1))
-        text=$(REFUSE=$number LD_PRELOAD="$work/refuse.so" "$program" check < "$input" 2> "$work/errors")
+        text=$(REFUSE=$number LD_PRELOAD="$work/refuse.so" \
+            "$program" check < "$input" 2> "$work/errors")
         code=$?
         if [ "$code" = 6 ] && [ -z "$text" ] && [ ! -s "$work/errors" ]; then
             refused=$((refused + 1))

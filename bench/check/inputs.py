@@ -1,5 +1,8 @@
 #!/usr/bin/env python3
-"""Writes the inputs of bench/check.sh into the folder that is named: eight for the time of `check`, and one long text for that of the reader."""
+"""Writes the inputs of bench/check.sh into the folder that is named.
+
+Eight are for the time of `check`, and one long text is for that of the reader.
+"""
 import random
 import sys
 from pathlib import Path
@@ -62,14 +65,22 @@ def main():
     full = equation(source, 97, 12, 6, False)
     middle = equation(source, 97, 6, 3, True)
     x, y = {(1, 0): 1}, {(0, 1): 1}
-    random_pair = lambda width, height, count: [written(polynomial(source, 97, width, height, count)) for _ in range(2)]
-    identity = lambda: [disguised(97, part, full, polynomial(source, 97, 500, 58, 8)) for part in (x, y)]
+
+    def pair(width, height, count):
+        return [written(polynomial(source, 97, width, height, count)) for _ in range(2)]
+
+    def identity():
+        factors = [polynomial(source, 97, 500, 58, 8) for _ in range(2)]
+        return [disguised(97, part, full, factor) for part, factor in zip((x, y), factors)]
+
+    moebius = ["(4*x+2)/(x+4)", "(3*y)/(x^3+2*x^2+3*x+4)", "(x+2)/(x+1)", "(2*y)/(x^3+3*x^2+3*x+1)"]
+    three, six = [written(middle)] * 2, [written(full)] * 2
     inputs = {
         "1-genus-two": text(3, small, small, "x", "2*y", "x", "2*y"),
-        "2-moebius": text(5, "y^2-x^5+x", "y^2-x^5+x", "(4*x+2)/(x+4)", "(3*y)/(x^3+2*x^2+3*x+4)", "(x+2)/(x+1)", "(2*y)/(x^3+3*x^2+3*x+1)"),
-        "3-middle": text(97, written(middle), written(middle), *random_pair(64, 8, 60), *random_pair(64, 8, 60)),
-        "4-identity": text(97, written(full), written(full), *identity(), *identity()),
-        "5-largest": text(97, written(full), written(full), *random_pair(512, 64, 1000), *random_pair(512, 64, 1000)),
+        "2-moebius": text(5, "y^2-x^5+x", "y^2-x^5+x", *moebius),
+        "3-middle": text(97, *three, *pair(64, 8, 60), *pair(64, 8, 60)),
+        "4-identity": text(97, *six, *identity(), *identity()),
+        "5-largest": text(97, *six, *pair(512, 64, 1000), *pair(512, 64, 1000)),
     }
     whole, fraction = [], []
     for _ in range(2):

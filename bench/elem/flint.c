@@ -1,5 +1,6 @@
-/* The products and inverses of program.rt.txt by FLINT: products of numerators by nmod_poly, reduced by the monic equation, and inverses
-   by nmod_poly_mat_solve with the matrix of multiplication; both in lowest terms. */
+/* The products and inverses of program.rt.txt by FLINT: products of numerators by nmod_poly,
+   reduced by the monic equation, and inverses by nmod_poly_mat_solve with the matrix of
+   multiplication; both in lowest terms. */
 #include <flint/flint.h>
 #include <flint/nmod_poly.h>
 #include <flint/nmod_poly_mat.h>
@@ -96,7 +97,8 @@ static void inverse(element *c, const element *a) {
         reduce(&power, degree + 1);
     }
     nmod_poly_mat_solve(x, c->den, m, one);
-    for (long i = 0; i < degree; i++) nmod_poly_mul(c->num[i], nmod_poly_mat_entry(x, i, 0), a->den);
+    for (long i = 0; i < degree; i++)
+        nmod_poly_mul(c->num[i], nmod_poly_mat_entry(x, i, 0), a->den);
     lowest(c);
     clear(&power);
     nmod_poly_mat_clear(m);
@@ -124,10 +126,12 @@ static void measure(long n_y, long n, long times) {
     fill(&b, 1000, n);
     double start = now();
     for (long i = 0; i < times; i++) product(&c, &a, &b);
-    printf("product %ld %ld %ld %.0f %ld\n", degree, n, times, now() - start, nmod_poly_length(c.den));
+    printf("product %ld %ld %ld %.0f %ld\n", degree, n, times, now() - start,
+           nmod_poly_length(c.den));
     start = now();
     for (long i = 0; i < times; i++) inverse(&c, &a);
-    printf("inverse %ld %ld %ld %.0f %ld\n", degree, n, times, now() - start, nmod_poly_length(c.den));
+    printf("inverse %ld %ld %ld %.0f %ld\n", degree, n, times, now() - start,
+           nmod_poly_length(c.den));
     clear(&a);
     clear(&b);
     clear(&c);

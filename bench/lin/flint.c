@@ -1,4 +1,5 @@
-/* Times row reduction, null space and solution of the matrices of program.rt.txt by FLINT's nmod_mat, in nanoseconds. */
+/* Times row reduction, null space and solution of the matrices of program.rt.txt by FLINT's
+   nmod_mat, in nanoseconds. */
 #include <flint/flint.h>
 #include <flint/nmod_mat.h>
 #include <inttypes.h>
@@ -44,18 +45,21 @@ static void measure(ulong p, slong n)
     start = now();
     rank = nmod_mat_rref(copy);
     nanos = now() - start;
-    printf("%" PRIu64 " %" PRId64 " span %" PRIu64 " %" PRId64 "\n", (uint64_t)p, (int64_t)n, nanos, (int64_t)rank);
+    printf("%" PRIu64 " %" PRId64 " span %" PRIu64 " %" PRId64 "\n", (uint64_t)p, (int64_t)n,
+           nanos, (int64_t)rank);
 
     start = now();
     rank = nmod_mat_nullspace(null, rows);
     nanos = now() - start;
-    printf("%" PRIu64 " %" PRId64 " kernel %" PRIu64 " %" PRId64 "\n", (uint64_t)p, (int64_t)n, nanos, (int64_t)rank);
+    printf("%" PRIu64 " %" PRId64 " kernel %" PRIu64 " %" PRId64 "\n", (uint64_t)p, (int64_t)n,
+           nanos, (int64_t)rank);
 
     nmod_mat_transpose(columns, rows);
     start = now();
     solved = nmod_mat_can_solve(found, columns, rhs);
     nanos = now() - start;
-    printf("%" PRIu64 " %" PRId64 " solve %" PRIu64 " %s\n", (uint64_t)p, (int64_t)n, nanos, solved ? "true" : "false");
+    printf("%" PRIu64 " %" PRId64 " solve %" PRIu64 " %s\n", (uint64_t)p, (int64_t)n, nanos,
+           solved ? "true" : "false");
 
     nmod_mat_clear(rows);
     nmod_mat_clear(columns);

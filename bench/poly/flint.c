@@ -43,5 +43,6 @@ static void measure(long n, long times) {
 int main(void) {
     measure(51, 20000);
     measure(501, 300);
+    measure(2001, 30);
     return 0;
 }

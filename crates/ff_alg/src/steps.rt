@@ -6,7 +6,8 @@ use std::sync::ledger::{Blank, Book, Ledger, Share};
 
 /// How many steps were taken. Only `tick` changes the number, by one.
 ///
-/// A caller that counts nothing calls a function that is given `Blank::new(1)` and makes its counter from it.
+/// A caller that counts nothing calls a function that is given `Blank::new(1)` and makes its
+/// counter from it.
 #[derive(Drop)]
 pub struct Steps<L: Ledger> {
     book: Book<L>,

@@ -15,14 +15,14 @@ use std::{env, io};
 
 fn main(rt: HostRuntime) -> ExitCode {
     let status = match words_of(rt.alloc(), env::args(&rt)) {
-        Ok(words) => counted::<Brand, Brand>(&rt, &words, Blank::new(1), Blank::new(1)),
+        Ok(words) => run_with_counters::<Brand, Brand>(&rt, &words, Blank::new(1), Blank::new(1)),
         Err(NoMemory) => Status::NoMemory,
     };
     ExitCode::from(status.exit())
 }
 
 // The arguments as words, without the program's own name. Arguments that cannot be read, for
-// another cause than memory, are one empty word, which is no form.
+// another cause than memory, are one empty word, which is no command.
 fn words_of(alloc: Global, args: io::Result<env::Args>) -> Result<Vec<Word>, NoMemory> {
     let mut words = Vec::new(alloc);
     match args {
@@ -38,7 +38,7 @@ fn words_of(alloc: Global, args: io::Result<env::Args>) -> Result<Vec<Word>, NoM
 }
 
 // Runs the words over the standard streams, with a counter of each ledger.
-fn counted<L: Ledger, M: Ledger>(
+fn run_with_counters<L: Ledger, M: Ledger>(
     rt: &HostRuntime,
     words: &[Word],
     tests: Blank,

@@ -1,93 +1,125 @@
 // Euclid's algorithm on the equation and an element, without fractions.
-ghost use Rattle.std.specs.Prelude.{◌≡◌, ℕ, ◌≤◌, ◌<◌, ◌+◌, ◌-◌, ◌++◌, length, max, map, IfOk};
-ghost use Rattle.std.specs.List.{All};
-ghost use Rattle.ff_poly.specs.Words.{poly_of, IsPoly, plane_of, IsPlane, polys_over, planes_over};
-ghost use Rattle.ff_poly.specs.Monomial.{monomial};
-ghost use Rattle.ff_elem.specs.Elem.{algebra_in, plane_in};
-ghost use Rattle.ff_elem.specs.Euclid.{IsPair, IsStep};
+ghost use Rattle.std.specs.Prelude.{◌≡◌, ℕ, ◌≤◌, ◌<◌, ◌+◌, ◌++◌, length, max, IfOk};
+ghost use Rattle.ff_theory.specs.Lawful.{lawful_field};
+ghost use Rattle.ff_theory.specs.Poly.{coeff};
+ghost use Rattle.ff_theory.specs.LowestTerms.{IsLowest};
+ghost use Rattle.ff_theory.specs.Monomial.{monomial};
+ghost use Rattle.ff_theory.specs.Planes.{row_of};
+ghost use Rattle.ff_theory.specs.Values.{poly_of, polys_of, polys_over, IsPoly, ArePolys};
+ghost use Rattle.ff_theory.specs.Values.{plane_of, planes_over, IsPlane};
+ghost use Rattle.ff_elem.specs.Euclid.{top, ArePlanes, IsStep, AreLast};
 ghost use Rattle.ff_elem.specs.declared.euclid.Multiple.{Multiple};
 
-use crate::reduce::multipliers;
-use crate::rows::{combination, copies, single};
-use ff_alg::{Coefficient, FiniteField, NoMemory};
-use ff_poly::{Plane, Poly};
+use crate::algebra::Alg;
+use ff_alg::{FiniteField, NoMemory};
+use ff_poly::rows::{combination, copies, single};
+use ff_poly::{Plane, Poly, multipliers};
 use std::alloc::Global;
 
 /// Polynomials in x and y: in E(f) the value is the product of the factor and a fixed element.
 #[derive(Drop)]
-pub struct Multiple<E: Coefficient> {
-    pub value: Plane<E>,
-    pub factor: Plane<E>,
+pub struct Multiple {
+    pub value: Plane,
+    pub factor: Plane,
 }
 
-/// The sum of `e * a` and `q * y^at * b`. The only error is want of memory.
-fn sum_of<E: Coefficient, K: FiniteField<E = E>>(
+/// The sum `e * a + q * y^at * b`.
+fn plane_combination<K: FiniteField<E = u32>>(
     alloc: Global,
     k: &K,
-    e: &Poly<E>,
-    a: &[Poly<E>],
-    q: &Poly<E>,
+    e: &Poly,
+    a: &[Poly],
+    q: &Poly,
     at: usize,
-    b: &[Poly<E>],
-) -> Result<Plane<E>, NoMemory>
+    b: &[Poly],
+) -> Result<Plane, NoMemory>
     requires e { IsPoly (K.elements k.now) e.now }
-    requires a { All (λ p. IsPoly (K.elements k.now) p) a.now }
+    requires a { ArePolys (K.elements k.now) a.now }
     requires q { IsPoly (K.elements k.now) q.now }
-    requires b { All (λ p. IsPoly (K.elements k.now) p) b.now }
+    requires b { ArePolys (K.elements k.now) b.now }
     ensures len { IfOk result (λ r. length r ≤ max (at + length b.now) (length a.now)) }
-    ensures plane { IfOk result (λ r. IsPlane (K.elements k.now) r) }
-    ensures value { IfOk result (λ r. plane_of (K.elements k.now) r ≡ (planes_over (K.elements k.now)).add ((planes_over (K.elements k.now)).mul (monomial (polys_over (K.elements k.now)) (poly_of (K.elements k.now) e.now) 0) (plane_of (K.elements k.now) a.now)) ((planes_over (K.elements k.now)).mul (monomial (polys_over (K.elements k.now)) (poly_of (K.elements k.now) q.now) at) (plane_of (K.elements k.now) b.now))) }
+    ensures plane { IfOk result (IsPlane (K.elements k.now)) }
+    ensures value { let F = K.elements k.now in let P = polys_over F in let Q = planes_over F in
+        IfOk result (λ r. plane_of F r ≡ Q.add
+        (Q.mul (row_of F.ring (poly_of F e.now)) (plane_of F a.now))
+        (Q.mul (monomial P (poly_of F q.now) at) (plane_of F b.now))) }
 {
     let rows = combination(alloc, k, e, a, q, at, b)?;
-    let sum = Plane::from_rows(alloc, k, &rows)?;
-    Ok(sum)
+    Ok(Plane::from_vec(k, rows))
 }
 
-/// A sum of multiples of `a` and `by` in which the top row of the value of `a` is cancelled.
-/// The only error is want of memory.
-fn cancelled<E: Coefficient, K: FiniteField<E = E>>(
+/// The sum `e * a + q * y^at * by` of multiples, where the top rows of the values cancel.
+fn cancel_by<K: FiniteField<E = u32>>(
     alloc: Global,
     k: &K,
-    a: &Multiple<E>,
-    by: &Multiple<E>,
-) -> Result<Multiple<E>, NoMemory>
-    requires a { IsPair (K.elements k.now) a.now }
-    requires by { IsPair (K.elements k.now) by.now }
+    e: &Poly,
+    a: &Multiple,
+    q: &Poly,
+    by: &Multiple,
+) -> Result<Multiple, NoMemory>
+    requires e { IsPoly (K.elements k.now) e.now }
+    requires a { ArePlanes (K.elements k.now) a.now }
+    requires q { IsPoly (K.elements k.now) q.now }
+    requires by { ArePlanes (K.elements k.now) by.now }
     requires nonzero { 0 < length by.now.value }
     requires longer { length by.now.value ≤ length a.now.value }
-    ensures pair { IfOk result (λ r. IsPair (K.elements k.now) r) }
+    requires factor { 0 < length e.now }
+    requires cancel { let F = K.elements k.now in let P = polys_over F in P.add
+        (P.mul (poly_of F e.now) (poly_of F (top a.now.value)))
+        (P.mul (poly_of F q.now) (poly_of F (top by.now.value))) ≡ P.zero }
+    ensures planes { IfOk result (ArePlanes (K.elements k.now)) }
     ensures shorter { IfOk result (λ r. length r.value < length a.now.value) }
-    ensures step { IfOk result (λ r. IsStep (K.elements k.now) a.now by.now r) }
+    ensures step { IfOk result (IsStep (K.elements k.now) a.now by.now) }
 {
     let (rows, by_rows) = (a.value.rows(), by.value.rows());
-    let (top, lead) = (rows.len() - 1, by_rows.len() - 1);
-    let at = top - lead;
-    let (e, q) = multipliers(alloc, k, &rows[top], &by_rows[lead])?;
-    let value = sum_of(alloc, k, &e, &rows[..top], &q, at, &by_rows[..lead])?;
-    let factor = sum_of(alloc, k, &e, a.factor.rows(), &q, at, by.factor.rows())?;
+    let (n, m) = (rows.len() - 1, by_rows.len() - 1);
+    let value = plane_combination(alloc, k, e, &rows[..n], q, n - m, &by_rows[..m])?;
+    let factor = plane_combination(alloc, k, e, a.factor.rows(), q, n - m, by.factor.rows())?;
     Ok(Multiple { value, factor })
 }
 
-/// The pair of these rows. The only error is want of memory.
-fn pair_of<E: Coefficient, K: FiniteField<E = E>>(
+/// A sum of multiples of `a` and `by` in which the top row of the value of `a` is cancelled.
+fn cancel_top<K: FiniteField<E = u32>>(
     alloc: Global,
     k: &K,
-    value: &[Poly<E>],
-    factor: &[Poly<E>],
-) -> Result<Multiple<E>, NoMemory>
-    requires value { All (λ p. IsPoly (K.elements k.now) p) value.now }
-    requires factor { All (λ p. IsPoly (K.elements k.now) p) factor.now }
-    ensures pair { IfOk result (λ r. IsPair (K.elements k.now) r) }
-    ensures value { IfOk result (λ r. plane_of (K.elements k.now) r.value ≡ plane_of (K.elements k.now) value.now) }
-    ensures factor { IfOk result (λ r. plane_of (K.elements k.now) r.factor ≡ plane_of (K.elements k.now) factor.now) }
+    a: &Multiple,
+    by: &Multiple,
+) -> Result<Multiple, NoMemory>
+    requires a { ArePlanes (K.elements k.now) a.now }
+    requires by { ArePlanes (K.elements k.now) by.now }
+    requires nonzero { 0 < length by.now.value }
+    requires longer { length by.now.value ≤ length a.now.value }
+    ensures planes { IfOk result (ArePlanes (K.elements k.now)) }
+    ensures shorter { IfOk result (λ r. length r.value < length a.now.value) }
+    ensures step { IfOk result (IsStep (K.elements k.now) a.now by.now) }
+{
+    let (rows, by_rows) = (a.value.rows(), by.value.rows());
+    let (e, q) = multipliers(alloc, k, &rows[rows.len() - 1], &by_rows[by_rows.len() - 1])?;
+    cancel_by(alloc, k, &e, a, &q, by)
+}
+
+/// The multiple with these rows.
+fn multiple_of<K: FiniteField<E = u32>>(
+    alloc: Global,
+    k: &K,
+    value: &[Poly],
+    factor: &[Poly],
+) -> Result<Multiple, NoMemory>
+    requires value { ArePolys (K.elements k.now) value.now }
+    requires factor { ArePolys (K.elements k.now) factor.now }
+    ensures planes { IfOk result (ArePlanes (K.elements k.now)) }
+    ensures value { let F = K.elements k.now in
+        IfOk result (λ r. plane_of F r.value ≡ plane_of F value.now) }
+    ensures factor { let F = K.elements k.now in
+        IfOk result (λ r. plane_of F r.factor ≡ plane_of F factor.now) }
 {
     let value = Plane::from_rows(alloc, k, value)?;
     let factor = Plane::from_rows(alloc, k, factor)?;
     Ok(Multiple { value, factor })
 }
 
-/// The rows of the value, and then those of the factor. The only error is want of memory.
-fn all_rows<E: Coefficient>(alloc: Global, a: &Multiple<E>) -> Result<Vec<Poly<E>>, NoMemory>
+/// The rows of the value, and then those of the factor.
+fn all_rows(alloc: Global, a: &Multiple) -> Result<Vec<Poly>, NoMemory>
     ensures { IfOk result (λ r. r.items ≡ a.now.value ++ a.now.factor) }
 {
     let mut rows = copies(alloc, a.value.rows())?;
@@ -97,77 +129,123 @@ fn all_rows<E: Coefficient>(alloc: Global, a: &Multiple<E>) -> Result<Vec<Poly<E
     Ok(rows)
 }
 
-/// The pair with its rows divided by their greatest common divisor. The only error is want of memory.
-fn primitive<E: Coefficient, K: FiniteField<E = E>>(
+/// The rows of the value and of the factor over the top row of the value, in lowest terms.
+fn lowest_rows<K: FiniteField<E = u32>>(
     alloc: Global,
     k: &K,
-    a: &Multiple<E>,
-) -> Result<Multiple<E>, NoMemory>
-    requires a { IsPair (K.elements k.now) a.now }
+    a: &Multiple,
+) -> Result<(Poly, Vec<Poly>), NoMemory>
+    requires a { ArePlanes (K.elements k.now) a.now }
     requires nonzero { 0 < length a.now.value }
-    ensures pair { IfOk result (λ r. IsPair (K.elements k.now) r) }
-    ensures short { IfOk result (λ r. length r.value ≤ length a.now.value) }
-    ensures step { IfOk result (λ r. (by : Multiple E) → IsStep (K.elements k.now) a.now by r) }
+    ensures rows { IfOk result (λ r. ArePolys (K.elements k.now) r.1.items) }
+    ensures lowest { let F = K.elements k.now in let L = K.lawful k.now in
+        IfOk result (λ r. IsLowest (lawful_field L) (length (a.now.value ++ a.now.factor))
+        (poly_of F r.0) (polys_of F r.1.items)) }
+    ensures equal { let F = K.elements k.now in let P = polys_over F in
+        let rows = a.now.value ++ a.now.factor in
+        IfOk result (λ r. (i : ℕ) → i < length rows →
+        P.mul (coeff P (polys_of F r.1.items) i) (poly_of F (top a.now.value)) ≡
+        P.mul (coeff P (polys_of F rows) i) (poly_of F r.0)) }
 {
     let rows = all_rows(alloc, a)?;
     let value = a.value.rows();
-    let n = value.len();
-    let top = n - 1;
-    let (_den, quotients) = Poly::lowest(alloc, k, &value[top], &rows)?;
-    let pair = pair_of(alloc, k, &quotients[..n], &quotients[n..])?;
-    Ok(pair)
+    Poly::lowest(alloc, k, &value[value.len() - 1], &rows)
+}
+
+/// The multiple with its rows divided by their greatest common divisor.
+fn primitive_part<K: FiniteField<E = u32>>(
+    alloc: Global,
+    k: &K,
+    a: &Multiple,
+) -> Result<Multiple, NoMemory>
+    requires a { ArePlanes (K.elements k.now) a.now }
+    requires nonzero { 0 < length a.now.value }
+    ensures planes { IfOk result (ArePlanes (K.elements k.now)) }
+    ensures short { IfOk result (λ r. length r.value ≤ length a.now.value) }
+    ensures step { IfOk result (λ r. (by : Multiple) → IsStep (K.elements k.now) a.now by r) }
+{
+    let (_den, rows) = lowest_rows(alloc, k, a)?;
+    let n = a.value.rows().len();
+    multiple_of(alloc, k, &rows[..n], &rows[n..])
 }
 
 /// A sum of multiples of `a` and `by` whose value has fewer rows than that of `by`.
-/// The only error is want of memory.
-fn remainder<E: Coefficient, K: FiniteField<E = E>>(
+fn reduce<K: FiniteField<E = u32>>(
     alloc: Global,
     k: &K,
-    a: Multiple<E>,
-    by: &Multiple<E>,
-) -> Result<Multiple<E>, NoMemory>
-    requires a { IsPair (K.elements k.now) a }
-    requires by { IsPair (K.elements k.now) by.now }
+    a: Multiple,
+    by: &Multiple,
+) -> Result<Multiple, NoMemory>
+    requires a { ArePlanes (K.elements k.now) a }
+    requires by { ArePlanes (K.elements k.now) by.now }
     requires nonzero { 0 < length by.now.value }
-    ensures pair { IfOk result (λ r. IsPair (K.elements k.now) r) }
+    ensures planes { IfOk result (ArePlanes (K.elements k.now)) }
     ensures shorter { IfOk result (λ r. length r.value < length by.now.value) }
-    ensures step { IfOk result (λ r. IsStep (K.elements k.now) a by.now r) }
+    ensures step { IfOk result (IsStep (K.elements k.now) a by.now) }
 {
     let mut rest = a;
     'reduce: while rest.value.rows().len() >= by.value.rows().len() {
-        rest = cancelled(alloc, k, &rest, by)?;
+        rest = cancel_top(alloc, k, &rest, by)?;
     }
+    Ok(rest)
+}
+
+/// The same, with its rows divided by their greatest common divisor.
+fn remainder<K: FiniteField<E = u32>>(
+    alloc: Global,
+    k: &K,
+    a: Multiple,
+    by: &Multiple,
+) -> Result<Multiple, NoMemory>
+    requires a { ArePlanes (K.elements k.now) a }
+    requires by { ArePlanes (K.elements k.now) by.now }
+    requires nonzero { 0 < length by.now.value }
+    ensures planes { IfOk result (ArePlanes (K.elements k.now)) }
+    ensures shorter { IfOk result (λ r. length r.value < length by.now.value) }
+    ensures step { IfOk result (IsStep (K.elements k.now) a by.now) }
+{
+    let rest = reduce(alloc, k, a, by)?;
     if rest.value.rows().is_empty() {
         return Ok(rest);
     }
-    let next = primitive(alloc, k, &rest)?;
-    Ok(next)
+    primitive_part(alloc, k, &rest)
 }
 
-/// A multiple of `a` modulo f whose value is a polynomial in x alone. Where that is 0, the factor is not 0 and has fewer
-/// rows than f. The only error is want of memory.
-pub fn euclid<E: Coefficient, K: FiniteField<E = E>>(
+/// The rows of `a`, with the factor 1.
+fn first_multiple<K: FiniteField<E = u32>>(
     alloc: Global,
     k: &K,
-    f: &Plane<E>,
-    a: &[Poly<E>],
-) -> Result<Multiple<E>, NoMemory>
-    requires f { IsPlane (K.elements k.now) f.now }
-    requires has_y { 1 < length f.now }
-    requires a { All (λ p. IsPoly (K.elements k.now) p) a.now }
-    ensures pair { IfOk result (λ r. IsPair (K.elements k.now) r) }
-    ensures short { IfOk result (λ r. length r.value ≤ 1) }
-    ensures value { IfOk result (λ r. (algebra_in (K.lawful k.now) f.now).mul (plane_in (K.lawful k.now) f.now r.factor) (plane_in (K.lawful k.now) f.now a.now) ≡ plane_in (K.lawful k.now) f.now r.value) }
-    ensures divisor { IfOk result (λ r. length r.value ≡ 0 → (0 < length r.factor) × (length r.factor < length f.now)) }
+    a: &[Poly],
+) -> Result<Multiple, NoMemory>
+    requires { ArePolys (K.elements k.now) a.now }
+    ensures planes { IfOk result (ArePlanes (K.elements k.now)) }
+    ensures value { let F = K.elements k.now in
+        IfOk result (λ r. plane_of F r.value ≡ plane_of F a.now) }
+    ensures factor { let F = K.elements k.now in let Q = planes_over F in
+        IfOk result (λ r. plane_of F r.factor ≡ Q.one) }
 {
-    let zero = Vec::new(alloc);
-    let one = single(alloc, Poly::one(alloc, k)?)?;
-    let mut large = pair_of(alloc, k, f.rows(), &zero)?;
-    let mut small = pair_of(alloc, k, a, &one)?;
-    'euclid: while small.value.rows().len() > 1 {
-        let next = remainder(alloc, k, large, &small)?;
-        large = small;
-        small = next;
+    let one = Poly::one(alloc, k)?;
+    let rows = single(alloc, one)?;
+    multiple_of(alloc, k, a, &rows)
+}
+
+impl<K: FiniteField<E = u32>> Alg<K> {
+    /// The last two multiples of `a` modulo the equation; the value of the last one is a polynomial
+    /// in x alone.
+    /// Where that is 0, its factor is not 0 and has fewer rows than the equation, and the equation
+    /// is the product of this factor and the value before, but for factors in x.
+    pub(crate) fn euclid(&self, alloc: Global, a: &[Poly]) -> Result<(Multiple, Multiple), NoMemory>
+        requires { ArePolys (K.elements self.now.k) a.now }
+        ensures { let L = K.lawful self.now.k in
+            IfOk result (λ r. AreLast L self.now.f a.now r.0 r.1) }
+    {
+        let mut small = first_multiple(alloc, &self.k, a)?;
+        let mut large = multiple_of(alloc, &self.k, self.f.rows(), &[])?;
+        'euclid: while small.value.rows().len() > 1 {
+            let next = remainder(alloc, &self.k, large, &small)?;
+            large = small;
+            small = next;
+        }
+        Ok((large, small))
     }
-    Ok(small)
 }

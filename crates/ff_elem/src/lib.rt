@@ -1,15 +1,15 @@
-//! The algebra E(f), which is k(x)[y]/f: its elements in lowest terms, sums, products, inverses and keys.
+//! The algebra E(f), which is k(x)[y]/f: its elements in lowest terms, sums, products, inverses
+//! and keys.
 #![tactic(auto)]
 
 mod algebra;
 mod elem;
 mod euclid;
+mod factors;
+mod fractions;
 mod frobenius;
 mod inverse;
 mod key;
-mod reduce;
-mod rows;
-mod terms;
 
 pub use algebra::Alg;
 pub use elem::{Elem, PolyList};

@@ -1,9 +1,9 @@
--- Common divisors of rows
+-- Common divisors of rows, and primitive polynomials
 pub mod Divides
 pub mod Gauss
-pub mod ContentFree
--- Planes without a content, and factors over k(x)
 pub mod Primitive
+-- Primitive parts, and factors over k(x)
+pub mod PrimitivePart
 pub mod NormalForm
 pub mod Factored
 -- Divisors of zero, idempotents and factors

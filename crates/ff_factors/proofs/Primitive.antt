@@ -1,160 +1,133 @@
--- Each plane but 0 is a polynomial in x times a normalised plane, in one way.
-use Rattle.std.proofs.Common.{◌≡◌, ℕ, zero, suc, pred, ◌<◌, ◌≤◌, ◌⊎◌, inl, inr, false, List, length, refl, sym, ◌∙◌, ap, ap₂, arith}
-use Rattle.std.proofs.lemmas.Bool.{cases_lt, ltb-true, lt-ltb, eqb-true, eq-eqb}
-use Rattle.ff_theory.specs.Ring.{IsCommRing}
+-- Planes whose rows have no common factor: what divides all rows of a multiple of such a plane, and
+-- exact factors.
+use Rattle.std.proofs.Common.{◌≡◌, ℕ, zero, suc, pred, ◌+◌, ◌≤◌, cond, false, [], ◌∷◌, length, refl}
+use Rattle.std.proofs.Common.{sym, ◌∙◌, ap, subst, arith}
+use Rattle.ff_theory.specs.Ring.{RingOps, IsCommRing}
 use Rattle.ff_theory.specs.Lawful.{Domain, Field}
-use Rattle.ff_theory.specs.Poly.{coeff, Poly, poly, polynomials}
-use Rattle.ff_theory.specs.Division.{size}
+use Rattle.ff_theory.specs.Poly.{coeff, put, Poly, poly, polynomials}
+use Rattle.ff_theory.specs.Division.{size, leading_coeff}
 use Rattle.ff_theory.specs.Divides.{Divides}
-use Rattle.ff_factors.specs.Factors.{leading_coeff, IsContentFree, IsNormalised, IsPrimitive, times_row}
-use Rattle.ff_theory.proofs.Solver.{◌⊗◌, ring3, ring4, zero_mul}
-use Rattle.ff_theory.proofs.Poly.{Poly_ext, Poly_path, trim-coeff, polynomial_laws}
-use Rattle.ff_theory.proofs.Division.{zero_from, size_le, top_nonzero}
-use Rattle.ff_theory.proofs.Evaluate.{const_map}
-use Rattle.ff_theory.proofs.PolyMap.{polynomial_domain, same_false, not_same}
-use Rattle.ff_theory.proofs.LowestTerms.{Reduced, den_monic, den_nonzero, lowest_terms, reduced_unique, cancel}
-use Rattle.ff_theory.proofs.ReducedForms.{nums_past}
-use Rattle.ff_theory.proofs.Algebra.{planes, Plane}
-use Rattle.ff_theory.proofs.Element.{IsLowest}
-use Rattle.ff_theory.proofs.ElementEuclid.{empty_plane}
+use Rattle.ff_factors.specs.Factors.{DividesAll, IsPrimitive, times_row}
+use Rattle.ff_theory.proofs.Solver.{◌⊗◌, ring3, mul_zero, zero_mul}
+use Rattle.ff_theory.proofs.Poly.{Poly_ext, polynomial_laws}
+use Rattle.ff_theory.proofs.Division.{const_mul_at, x}
+use Rattle.ff_theory.proofs.Gcd.{no_size}
+use Rattle.ff_theory.proofs.PolyMap.{polynomial_domain, same_false}
+use Rattle.ff_theory.proofs.LowestTerms.{ListGcd, list_gcd, cancel}
+use Rattle.ff_theory.proofs.QuotientUnits.{unit_poly}
+use Rattle.ff_theory.specs.Planes.{planes, Plane}
+use Rattle.ff_theory.proofs.Proper.{row_size}
+use Rattle.ff_theory.proofs.ElementEuclid.{plane_size-mul, empty_plane, zero_plane_size}
+use Rattle.ff_theory.proofs.Divides.{divides_zero, divides_left, divides_trans}
 use Rattle.ff_factors.proofs.Divides.{divides_all}
-use Rattle.ff_factors.proofs.ContentFree.{times_row-at, times_row-size, content_free_divides}
+use Rattle.ff_factors.proofs.Gauss.{one_divisor, gauss}
 
 module _ (K : Field) where
   abbrev D : Domain
   D = polynomial_domain K
 
+  abbrev P : RingOps
+  P = planes K
+
   PL : IsCommRing (planes K)
   PL = polynomial_laws D.ring D.laws D.tests
 
-  -- a plane that is not 0 has a highest row
-  pub plane_rows : (g : Plane K) → ¬ (g ≡ (planes K).zero) → (n : ℕ) × (size (polynomials K.ring) g ≡ suc n)
-  plane_rows g ng = go (size D.ring g) refl
+  -- row i of a * g
+  pub times_row-at : (a : Poly K.ring) (g : Plane K) (i : ℕ)
+      → coeff (polynomials K.ring) (times_row K.ring a g).coeffs i
+      ≡ (polynomials K.ring).mul a (coeff (polynomials K.ring) g.coeffs i)
+  times_row-at a g i = const_mul_at D.ring D.laws D.tests a g i
+
+  -- and its degree in y
+  pub times_row-size : (a : Poly K.ring) (g : Plane K)
+      → (polynomials K.ring).same a (polynomials K.ring).zero ≡ false
+      → size (polynomials K.ring) (times_row K.ring a g) ≡ size (polynomials K.ring) g
+  times_row-size a g na = go (size D.ring g) refl
     where
-      go : (n : ℕ) → size D.ring g ≡ n → (n : ℕ) × (size D.ring g ≡ suc n)
-      go zero e = absurd (ng (empty_plane K g e))
-      go (suc n) e = (n, e)
+      go : (m : ℕ) → size D.ring g ≡ m → size D.ring (times_row K.ring a g) ≡ size D.ring g
+      go zero h = ap (λ t. size D.ring (times_row K.ring a t)) (empty_plane K g h)
+          ∙ ap (size D.ring) (mul_zero P PL (poly D.ring (a ∷ []))) ∙ zero_plane_size K ∙ sym h
+      go (suc m) h = let e : size D.ring (times_row K.ring a g)
+          ≡ suc (0 + m) = plane_size-mul K (poly D.ring (a ∷ [])) g 0 m (row_size K a na) h in omega
+          (arith, e, h)
 
-  -- the highest row is not 0
-  pub top_row : (g : Plane K) (n : ℕ) → size (polynomials K.ring) g ≡ suc n → (polynomials K.ring).same (coeff (polynomials K.ring) g.coeffs n) (polynomials K.ring).zero ≡ false
-  top_row g n e = same_false D.ring D.tests _ D.zero (top_nonzero D.ring D.laws D.tests g n e)
+  x_size : size K.ring (x K.ring K.laws K.tests) ≡ 2
+  unfolding poly
+  x_size = ap (λ b. length (put K.ring K.zero (cond b [] (K.one ∷ []))))
+      (same_false K.ring K.tests K.one K.zero K.is_field.one_not_zero)
 
-  -- the rows of g over the highest one, in lowest terms, are those of a normalised plane
-  module _ (g : Plane K) (n : ℕ) (has : size (polynomials K.ring) g ≡ suc n) (form : Reduced K (suc n))
-      (equal : (i : ℕ) → i < suc n → (polynomials K.ring).mul (coeff (polynomials K.ring) form.nums i) (coeff (polynomials K.ring) g.coeffs n) ≡ (polynomials K.ring).mul (coeff (polynomials K.ring) g.coeffs i) form.den) where
-    abbrev top : Poly K.ring
-    top = coeff D.ring g.coeffs n
-
-    abbrev part : Plane K
-    part = poly D.ring form.nums
-
-    part_at : (i : ℕ) → coeff D.ring part.coeffs i ≡ coeff D.ring form.nums i
-    unfolding poly
-    part_at i = trim-coeff D.ring D.laws D.tests form.nums i
-
-    part_past : (i : ℕ) → suc n ≤ i → coeff D.ring part.coeffs i ≡ D.zero
-    part_past i l = part_at i ∙ nums_past K (suc n) form.nums i (let c : length form.nums ≡ suc n = eqb-true (length form.nums) (suc n) form.count in omega (arith, c, l))
-
-    cross : (i : ℕ) → D.mul (coeff D.ring part.coeffs i) top ≡ D.mul (coeff D.ring g.coeffs i) form.den
-    cross i = pick (cases_lt i (suc n))
-      where
-        pick : (i < suc n) ⊎ (suc n ≤ i) → D.mul (coeff D.ring part.coeffs i) top ≡ D.mul (coeff D.ring g.coeffs i) form.den
-        pick (inl l) = ap (λ t. D.mul t top) (part_at i) ∙ equal i l
-        pick (inr l) = ap (λ t. D.mul t top) (part_past i l) ∙ zero_mul D.ring D.laws top ∙ sym (ap (λ t. D.mul t form.den) (zero_from D.ring D.laws D.tests g i (omega (arith, has, l))) ∙ zero_mul D.ring D.laws form.den)
-
-    part_top : coeff D.ring part.coeffs n ≡ form.den
-    part_top = cancel D _ _ top (top_row g n has) (cross n ∙ D.laws.mul_comm top form.den)
-
-    part_size : size D.ring part ≡ suc n
-    part_size = go (cases_lt n (size D.ring part))
-      where
-        most : size D.ring part ≤ suc n
-        most = size_le D.ring D.laws D.tests part (suc n) part_past
-
-        go : (n < size D.ring part) ⊎ (size D.ring part ≤ n) → size D.ring part ≡ suc n
-        go (inl l) = omega (arith, most, l)
-        go (inr l) = absurd (not_same D.ring D.tests form.den D.zero (den_nonzero K (suc n) form) (sym part_top ∙ zero_from D.ring D.laws D.tests part n l))
-
-    part_free : IsContentFree K.ring part
-    unfolding IsContentFree
-    part_free d all = let small : size K.ring d < 2 = ltb-true (size K.ring d) 2 (form.lowest d (let h : Divides D.ring d (coeff D.ring part.coeffs n) = all n in (h.0, sym part_top ∙ h.1)) (λ i l. let h : Divides D.ring d (coeff D.ring part.coeffs i) = all i in (h.0, sym (part_at i) ∙ h.1))) in omega (arith, small)
-
-    part_leading : leading_coeff K.ring (leading_coeff D.ring part) ≡ K.one
-    part_leading = ap (λ k. leading_coeff K.ring (coeff D.ring part.coeffs (pred k))) part_size ∙ ap (leading_coeff K.ring) part_top ∙ den_monic K (suc n) form
-
-    content : Divides D.ring form.den top
-    content = content_free_divides K part part_free form.den top (λ i. (coeff D.ring g.coeffs i, D.laws.mul_comm top _ ∙ cross i))
-
-    times_part : g ≡ times_row K.ring content.0 part
-    times_part = Poly_ext D.ring D.laws D.tests g _ (λ i. cancel D _ _ form.den (den_nonzero K (suc n) form) (sym (cross i) ∙ ap (D.mul (coeff D.ring part.coeffs i)) content.1
-        ∙ ring3 D.ring D.laws (λ p c d. p ⊗ (c ⊗ d)) (λ p c d. (c ⊗ p) ⊗ d) refl (coeff D.ring part.coeffs i) content.0 form.den ∙ ap (λ t. D.mul t form.den) (sym (times_row-at K content.0 part i))))
-
-    primitive : IsPrimitive K.ring g content.0 part
-    primitive = record { product = times_part; normalised = record { content_free = part_free; leading_one = part_leading } }
-
-  pub primitive_part : (g : Plane K) → ¬ (g ≡ (planes K).zero) → (c : Poly K.ring) × (s : Plane K) × IsPrimitive K.ring g c s
-  primitive_part g ng = go (plane_rows g ng)
+  -- what divides each row of w * g divides w
+  pub primitive_divides : (g : Plane K) → IsPrimitive K.ring g → (a w : Poly K.ring)
+      → ((i : ℕ) → Divides (polynomials K.ring) a
+      ((polynomials K.ring).mul w (coeff (polynomials K.ring) g.coeffs i)))
+      → Divides (polynomials K.ring) a w
+  unfolding IsPrimitive
+  primitive_divides g free a w all = go (size K.ring d.g) refl (free d.g rows)
     where
-      go : (n : ℕ) × (size D.ring g ≡ suc n) → (c : Poly K.ring) × (s : Plane K) × IsPrimitive K.ring g c s
-      go r = let t : (t : Reduced K (suc r.0)) × ((i : ℕ) → i < suc r.0 → D.mul (coeff D.ring t.nums i) (coeff D.ring g.coeffs r.0) ≡ D.mul (coeff D.ring g.coeffs i) t.den) = lowest_terms K (suc r.0) (coeff D.ring g.coeffs r.0) (coeff D.ring g.coeffs) (top_row g r.0 r.1) in
-          ((content g r.0 r.1 t.0 t.1).0, poly D.ring t.0.nums, primitive g r.0 r.1 t.0 t.1)
+      d : ListGcd K D.zero (coeff D.ring g.coeffs) (size D.ring g)
+      d = list_gcd K D.zero (coeff D.ring g.coeffs) (size D.ring g)
 
-  -- what code owes that brings the rows over the highest one to lowest terms
-  pub primitive_of_lowest : (g : Plane K) (n : ℕ) → size (polynomials K.ring) g ≡ suc n → (d : Poly K.ring) (M : List (Poly K.ring)) → IsLowest K (suc n) d M
-      → ((i : ℕ) → i < suc n → (polynomials K.ring).mul (coeff (polynomials K.ring) M i) (coeff (polynomials K.ring) g.coeffs n) ≡ (polynomials K.ring).mul (coeff (polynomials K.ring) g.coeffs i) d)
-      → (c : Poly K.ring) × IsPrimitive K.ring g c (poly (polynomials K.ring) M)
-  primitive_of_lowest g n has d M low equal = ((content g n has form equal).0, primitive g n has form equal)
+      rows : DividesAll D.ring d.g g
+      rows = divides_all D.ring D.laws D.tests d.g g (λ i l. (d.part i, d.of_each i l))
+
+      go : (k : ℕ) → size K.ring d.g ≡ k → size K.ring d.g ≤ 1 → Divides D.ring a w
+      go zero e l = let small : size K.ring (x K.ring K.laws K.tests) ≤ 1 = free
+          (x K.ring K.laws K.tests) (λ i. divides_trans D.ring D.laws (x K.ring K.laws K.tests) d.g
+          (coeff D.ring g.coeffs i) (
+            D.zero,
+            no_size K.ring K.laws K.tests K.inverse K.is_field d.g e
+                ∙ sym (zero_mul D.ring D.laws (x K.ring K.laws K.tests)),
+          ) (rows i)) in absurd
+          (let two : size K.ring (x K.ring K.laws K.tests)
+          ≡ 2 = x_size in omega (arith, small, two))
+      go (suc zero) e l =
+          let u : (h : Poly K.ring) × (D.mul h d.g ≡ D.one) = unit_poly K d.g e in
+          let v : Divides D.ring a (D.mul w d.g) = d.greatest a w (let z : Divides D.ring a D.zero =
+          divides_zero D.ring D.laws a in (z.0, mul_zero D.ring D.laws w ∙ z.1)) (λ i l. all i)
+          in
+          subst (Divides D.ring a) (ring3 D.ring D.laws (λ h w g. h ⊗ (w ⊗ g))
+          (λ h w g. w ⊗ (h ⊗ g)) refl u.0 w d.g ∙ ap (D.mul w) u.1 ∙ D.laws.mul_one w)
+          (divides_left D.ring D.laws a u.0 (D.mul w d.g) v)
+      go (suc (suc k)) e l = absurd (omega (arith, e, l))
+
+  -- where c * f is w * g and the rows of g have no common factor, f is a multiple of g by a
+  -- polynomial in x
+  pub primitive_exact : (c w : Poly K.ring) (f g : Plane K)
+      → (polynomials K.ring).same c (polynomials K.ring).zero ≡ false → IsPrimitive K.ring g
+      → times_row K.ring c f ≡ times_row K.ring w g
+      → (s : Poly K.ring) × (f ≡ times_row K.ring s g)
+  primitive_exact c w f g nc free e = (
+    s.0,
+    Poly_ext D.ring D.laws D.tests f (times_row K.ring s.0 g)
+        (λ i. cancel D _ _ c nc (D.laws.mul_comm _ c ∙ row i
+        ∙ ap (λ t. D.mul t (coeff D.ring g.coeffs i)) s.1
+        ∙ ring3 D.ring D.laws (λ s c g. (s ⊗ c) ⊗ g) (λ s c g. (s ⊗ g) ⊗ c) refl s.0 c
+        (coeff D.ring g.coeffs i) ∙ ap (λ t. D.mul t c) (sym (times_row-at s.0 g i)))),
+  )
     where
-      form : Reduced K (suc n)
-      form = record { den = d; nums = M; monic = low.monic; count = low.count; lowest = low.lowest }
+      row : (i : ℕ) → D.mul c (coeff D.ring f.coeffs i) ≡ D.mul w (coeff D.ring g.coeffs i)
+      row i = sym (times_row-at c f i) ∙ ap (λ (p : Plane K). coeff D.ring p.coeffs i) e
+          ∙ times_row-at w g i
 
-  -- a normalised plane as its highest row and all its rows in lowest terms
-  kept : (n : ℕ) (s : Plane K) → size D.ring s ≡ suc n → IsNormalised K.ring s → Reduced K (suc n)
-  unfolding IsContentFree
-  kept n s has normal = record {
-    den = coeff D.ring s.coeffs n;
-    nums = s.coeffs;
-    monic = ap (λ t. K.same t K.one) (sym (ap (λ k. leading_coeff K.ring (coeff D.ring s.coeffs (pred k))) has) ∙ normal.leading_one) ∙ K.tests.same_refl K.one;
-    count = eq-eqb (length s.coeffs) (suc n) has;
-    lowest = λ d hd hn. lt-ltb (size K.ring d) 2 (let small : size K.ring d ≤ 1 = normal.content_free d (divides_all D.ring D.laws D.tests d s (λ i l. hn i (omega (arith, l, has)))) in omega (arith, small));
-  }
+      s : Divides D.ring c w
+      s = primitive_divides g free c w (λ i. (
+        coeff D.ring f.coeffs i,
+        sym (row i)
+            ∙ D.laws.mul_comm c (coeff D.ring f.coeffs i),
+      ))
 
-  pub scalar_nonzero : (g : Plane K) (c : Poly K.ring) (s : Plane K) → ¬ (g ≡ (planes K).zero) → g ≡ times_row K.ring c s → (polynomials K.ring).same c (polynomials K.ring).zero ≡ false
-  scalar_nonzero g c s ng e = same_false D.ring D.tests c D.zero (λ z. ng (e ∙ ap (λ t. times_row K.ring t s) z ∙ ap (λ t. (planes K).mul t s) (const_map D.ring D.laws D.tests).on_zero ∙ zero_mul (planes K) PL s))
+  -- the same for a product
+  pub factor_exact : (c w : Poly K.ring) (f g h : Plane K)
+      → (polynomials K.ring).same c (polynomials K.ring).zero ≡ false → IsPrimitive K.ring g
+      → IsPrimitive K.ring h
+      → times_row K.ring c f ≡ times_row K.ring w ((planes K).mul g h) → (s : Poly K.ring)
+      × (f ≡ times_row K.ring s ((planes K).mul g h))
+  factor_exact c w f g h nc free_g free_h e = primitive_exact c w f ((planes K).mul g h) nc
+      (gauss K g h free_g free_h) e
 
-  -- the part has the rows of the plane
-  pub primitive_size : (g : Plane K) (c : Poly K.ring) (s : Plane K) → ¬ (g ≡ (planes K).zero) → IsPrimitive K.ring g c s → size (polynomials K.ring) s ≡ size (polynomials K.ring) g
-  primitive_size g c s ng h = sym (times_row-size K c s (scalar_nonzero g c s ng h.product)) ∙ ap (size D.ring) (sym h.product)
-
-  -- the only one
-  pub primitive_unique : (g : Plane K) → ¬ (g ≡ (planes K).zero) → (c d : Poly K.ring) (s t : Plane K) → IsPrimitive K.ring g c s → IsPrimitive K.ring g d t → (c ≡ d) × (s ≡ t)
-  unfolding kept
-  primitive_unique g ng c d s t h k = (cancel D c d (coeff D.ring s.coeffs n) (top_row s n s_size) (sym (row c s n h.product) ∙ row d t n k.product ∙ ap (λ (p : Plane K). D.mul d (coeff D.ring p.coeffs n)) (sym equal)), equal)
-    where
-      n : ℕ
-      n = (plane_rows g ng).0
-
-      nc : D.same c D.zero ≡ false
-      nc = scalar_nonzero g c s ng h.product
-
-      nd : D.same d D.zero ≡ false
-      nd = scalar_nonzero g d t ng k.product
-
-      s_size : size D.ring s ≡ suc n
-      s_size = primitive_size g c s ng h ∙ (plane_rows g ng).1
-
-      t_size : size D.ring t ≡ suc n
-      t_size = primitive_size g d t ng k ∙ (plane_rows g ng).1
-
-      row : (a : Poly K.ring) (p : Plane K) (i : ℕ) → g ≡ times_row K.ring a p → coeff D.ring g.coeffs i ≡ D.mul a (coeff D.ring p.coeffs i)
-      row a p i e = ap (λ (q : Plane K). coeff D.ring q.coeffs i) e ∙ times_row-at K a p i
-
-      both : (a b : Poly K.ring) (p q : Plane K) (i : ℕ) → g ≡ times_row K.ring a p → g ≡ times_row K.ring b q
-          → D.mul (D.mul (coeff D.ring p.coeffs i) (coeff D.ring q.coeffs n)) (D.mul a b) ≡ D.mul (coeff D.ring g.coeffs i) (coeff D.ring g.coeffs n)
-      both a b p q i e f = ring4 D.ring D.laws (λ p q a b. (p ⊗ q) ⊗ (a ⊗ b)) (λ p q a b. (a ⊗ p) ⊗ (b ⊗ q)) refl (coeff D.ring p.coeffs i) (coeff D.ring q.coeffs n) a b ∙ ap₂ D.mul (sym (row a p i e)) (sym (row b q n f))
-
-      cross : (i : ℕ) → D.mul (coeff D.ring s.coeffs i) (coeff D.ring t.coeffs n) ≡ D.mul (coeff D.ring t.coeffs i) (coeff D.ring s.coeffs n)
-      cross i = cancel D _ _ (D.mul c d) (D.no_divisors c d nc nd) (both c d s t i h.product k.product ∙ sym (both d c t s i k.product h.product) ∙ ap (D.mul _) (D.laws.mul_comm d c))
-
-      equal : s ≡ t
-      equal = Poly_path D.ring s t (ap (λ (r : Reduced K (suc n)). r.nums) (reduced_unique K (suc n) (kept n s s_size h.normalised) (kept n t t_size k.normalised) (λ i l. cross i)))
+  -- a plane whose leading row is 1
+  pub monic_primitive : (g : Plane K) → leading_coeff (polynomials K.ring) g
+      ≡ (polynomials K.ring).one → IsPrimitive K.ring g
+  unfolding IsPrimitive
+  monic_primitive g e d all = let h : Divides D.ring d (leading_coeff D.ring g) = all
+      (pred (size D.ring g)) in one_divisor K d (h.0, sym e ∙ h.1)

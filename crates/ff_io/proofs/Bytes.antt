@@ -1,12 +1,13 @@
 -- Bytes that are taken from a source and given to a sink.
-use Rattle.std.proofs.Common.{subst, take-add, take_all, ◌≡◌, ◌≤◌, ◌+◌, ◌-◌, ◌++◌, ℕ, List, length, take, drop, min, Some, Ok, ap, ap₂, sym, ◌∙◌, arith, length-take-le, take-append-drop, take_at, length-append, length-take, length-drop, drop_of_length-le}
+use Rattle.std.proofs.Common.{◌≡◌, ◌≤◌, ◌+◌, ◌-◌, ◌++◌, ℕ, List, length, take, drop, min, Some, Ok, ap, ap₂, sym, ◌∙◌, subst, arith}
+use Rattle.std.proofs.Common.{take-add, take_all, take_at, take-append-drop, drop_of_length-le, length-take-le, length-append, length-take, length-drop}
 use Rattle.std.specs.Io.KnownBytes.{Appends, Consumes, ReadConsumes}
 use Rattle.std.proofs.KnownBytes.{Appends-trans, Consumes-trans}
 use Rattle.std.specs.declared.option.Option.{Option}
 use Rattle.ff_io.specs.Bytes.{TakesSome}
 use Rattle.ff_io.specs.declared.traits.Failed.{Failed}
 
--- the bytes that were put in front of a buffer are its first
+-- the bytes that were put before a buffer are its first
 take-put : (count : ℕ) (left rest : List ℕ) → count ≤ length left → take count (take count left ++ rest) ≡ take count left
 take-put count left rest within = take_at (take count left) rest count (length-take-le count left within)
 
@@ -17,9 +18,9 @@ pub ReadConsumes-given : (chunk count : ℕ) (left buf : List ℕ) (buf_new left
     → ReadConsumes {E = Failed} (Some left) (Some left_new) (Ok count) buf_new
 ReadConsumes-given chunk count left buf buf_new left_new least is_given placed rest =
     let within : count ≤ length left = omega arith in
-    let front : take count buf_new ≡ take count left = ap (take count) placed ∙ take-put count left (drop count buf) within in
+    let prefix : take count buf_new ≡ take count left = ap (take count) placed ∙ take-put count left (drop count buf) within in
     let size : length buf_new ≡ min count (length left) + (length buf - count) = simp (length-append, length-take, length-drop) at (ap length placed) in (
-      sym (ap₂ (λ (first last : List ℕ). first ++ last) front rest ∙ take-append-drop count left),
+      sym (ap₂ (λ (first last : List ℕ). first ++ last) prefix rest ∙ take-append-drop count left),
       λ none room. rest ∙ drop_of_length-le left (omega arith),
     )
 

@@ -9,7 +9,9 @@ use std::io::{Read, Write};
 use std::marker::Model;
 
 /// A source over a reader. It tells of its bytes what the reader tells, and counts a fault at
-/// each error of the reader. In contracts it is the record of the reader and this count.
+/// each error of the reader.
+///
+/// In contracts it is the record of the reader and this count.
 #[derive(Drop)]
 pub struct ReadSource<R> {
     reader: R,
@@ -42,7 +44,9 @@ impl<R: Read> Source for ReadSource<R> {
     /// count stops at the last value of u64.
     fn read(&mut self, buf: &mut [u8]) -> Result<usize, Failed>
         ensures bound { ReadsAtMost result buf.new }
-        ensures bytes { ReadConsumes (R.remaining self.old.inner) (R.remaining self.new.inner) result buf.new }
+        ensures bytes { let old = R.remaining self.old.inner in
+            let new = R.remaining self.new.inner in
+            ReadConsumes old new result buf.new }
         ensures cause { HasCause self.old.faults self.new.faults result }
         ensures counted { self.new.faults ≡ faults_after result self.old.faults }
     {
@@ -57,8 +61,9 @@ impl<R: Read> Source for ReadSource<R> {
 }
 
 /// A sink over a writer. It tells of its bytes what the writer tells, and counts a fault at each
-/// error of the writer, and where the writer takes none of some bytes. In contracts it is the
-/// record of the writer and this count.
+/// error of the writer, and where the writer takes none of some bytes.
+///
+/// In contracts it is the record of the writer and this count.
 #[derive(Drop)]
 pub struct WriteSink<W> {
     writer: W,
@@ -91,7 +96,9 @@ impl<W: Write> Sink for WriteSink<W> {
     /// is not empty, and counts a fault exactly then. The count stops at the last value of u64.
     fn write(&mut self, bytes: &[u8]) -> Result<usize, Failed>
         ensures bound { WritesAtMost result bytes.now }
-        ensures bytes { WriteAppends (W.contents self.old.inner) (W.contents self.new.inner) result bytes.now }
+        ensures bytes { let old = W.contents self.old.inner in
+            let new = W.contents self.new.inner in
+            WriteAppends old new result bytes.now }
         ensures progress { IfOk result (λ count. 0 < length bytes.now → 0 < count) }
         ensures cause { HasCause self.old.faults self.new.faults result }
         ensures counted { self.new.faults ≡ faults_after result self.old.faults }

@@ -4,7 +4,7 @@ ghost use Rattle.std.specs.Result.{IsErr};
 ghost use Rattle.std.specs.Io.{ReadsAtMost};
 ghost use Rattle.std.specs.Io.KnownBytes.{ReadConsumes};
 ghost use Rattle.ff_io.specs.Causes.{HasCause};
-ghost use Rattle.ff_io.specs.Memory.{FailsNext, given, moved, source_after};
+ghost use Rattle.ff_io.specs.Memory.{FailsNext, count_of, read_count, source_after};
 
 use super::calls::CallLog;
 use super::{Failed, Source};
@@ -28,19 +28,23 @@ impl Model for MemSource {
 
     ghost Value = { SourceState };
 
-    ghost view = { λ source. record { left = drop source.taken source.bytes.items; chunk = source.chunk; calls = source.calls } };
+    ghost view = { λ source. record {
+      left = drop source.taken source.bytes.items;
+      chunk = source.chunk;
+      calls = source.calls;
+    } };
 
     ghost invariant = { λ source. (source.taken ≤ length source.bytes.items) × (1 ≤ source.chunk) };
 }
 
 impl MemSource {
-    /// A source of `bytes`, at most `chunk` of them in a call. The calls whose numbers, from 1 on,
-    /// are in `fails` answer `Failed`. Other calls do not.
+    /// A source of `bytes`, at most `chunk` of them in a call. `chunk` is at least 1. The calls
+    /// whose numbers, from 1 on, are in `fails` answer `Failed`. Other calls do not.
     pub fn new(bytes: Vec<u8>, chunk: usize, fails: Vec<u64>) -> MemSource
         requires { 1 ≤ chunk }
         ensures left { result.left ≡ bytes.items }
         ensures chunk { result.chunk ≡ chunk }
-        ensures calls { result.calls ≡ record { made = 0; fails = fails.items; faults = 0 } }
+        ensures calls { result.calls ≡ record { count = 0; fails = fails.items; faults = 0 } }
     {
         MemSource {
             bytes,
@@ -60,12 +64,15 @@ impl Source for MemSource {
     /// it gives as many bytes as the chunk, `buf` and what is left allow.
     fn read(&mut self, buf: &mut [u8]) -> Result<usize, Failed>
         ensures bound { ReadsAtMost result buf.new }
-        ensures bytes { ReadConsumes (Some self.old.left) (Some self.new.left) result buf.new }
+        ensures bytes { let old = Some self.old.left in
+            let new = Some self.new.left in
+            ReadConsumes old new result buf.new }
         ensures cause { HasCause self.old.calls.faults self.new.calls.faults result }
 
         ensures fails { IsErr result ↔ FailsNext self.old.calls }
-        ensures count { IfOk result (λ count. count ≡ given self.old buf.old) }
-        ensures buffer { buf.new ≡ take (moved result) self.old.left ++ drop (moved result) buf.old }
+        ensures count { IfOk result (λ count. count ≡ read_count self.old buf.old) }
+        ensures buffer { let count = count_of result in
+            buf.new ≡ take count self.old.left ++ drop count buf.old }
         ensures after { self.new ≡ source_after result self.old }
     {
         self.calls.begin()?;

@@ -1,5 +1,6 @@
 // A whole input, read in several calls, and a whole text, written in several calls.
-ghost use Rattle.std.specs.Prelude.{◌≡◌, ◌≤◌, ◌<◌, ◌++◌, take, length, vec_len, IfOk, OnOk, OnErr, Err};
+ghost use Rattle.std.specs.Prelude.{◌≡◌, ◌≤◌, ◌<◌, ◌++◌, take, length, vec_len};
+ghost use Rattle.std.specs.Prelude.{IfOk, OnOk, OnErr, Err};
 ghost use Rattle.std.specs.Io.KnownBytes.{Appends, Consumes, IsAtEnd};
 ghost use Rattle.ff_io.specs.Bytes.{AppendsProperPrefix, TakesSome, TakesUpTo};
 ghost use Rattle.ff_io.specs.Causes.{HasCause, Rose};
@@ -23,8 +24,9 @@ const CHUNK: usize = 4096;
 /// fewer than `limit` bytes the source was read to its end. No call of the source gets an empty
 /// buffer, and each but the last takes a byte, so there are at most `limit` calls.
 ///
-/// `Fault` comes only where the faults of the source rose, or stand at the last value of u64. At
-/// an error some bytes were taken from the front of the source, at most `limit`, and are lost.
+/// `Fault` comes only where the faults of the source rose, or stand at the last value of u64, and
+/// `NoMemory` where the bytes found no memory. At an error a prefix of the source's bytes, of at
+/// most `limit`, was taken and is lost.
 pub fn read_up_to<S: Source>(
     alloc: Global,
     source: &mut S,
@@ -32,11 +34,15 @@ pub fn read_up_to<S: Source>(
 ) -> Result<Vec<u8>, ReadStop>
     ensures later { S.faults source.old ≤ S.faults source.new }
 
-    ensures bytes { IfOk result (λ taken. TakesUpTo limit (S.left source.old) (S.left source.new) taken.items) }
+    ensures bytes { let old = S.left source.old in
+        let new = S.left source.new in
+        IfOk result (λ taken. TakesUpTo limit old new taken.items) }
     ensures bound { IfOk result (λ taken. vec_len taken ≤ limit) }
-    ensures end { IfOk result (λ taken. vec_len taken < limit → IsAtEnd (S.left source.new)) }
+    ensures end { let new = S.left source.new in
+        IfOk result (λ taken. vec_len taken < limit → IsAtEnd new) }
 
-    ensures fault { result ≡ Err ReadStop.Fault → Rose (S.faults source.old) (S.faults source.new) }
+    ensures fault { let before = S.faults source.old in
+        result ≡ Err ReadStop.Fault → Rose before (S.faults source.new) }
     ensures lost { OnErr result (TakesSome limit (S.left source.old) (S.left source.new)) }
 {
     let mut taken = Vec::new(alloc);
@@ -61,12 +67,17 @@ fn read_chunk<S: Source>(
     ensures later { S.faults source.old ≤ S.faults source.new }
 
     ensures count { IfOk result (λ count. count ≤ length chunk.new) }
-    ensures taken { IfOk result (λ count. taken.new.items ≡ taken.old.items ++ take count chunk.new) }
-    ensures bytes { IfOk result (λ count. Consumes (S.left source.old) (S.left source.new) (take count chunk.new)) }
+    ensures taken { let old = taken.old.items in
+        IfOk result (λ count. taken.new.items ≡ old ++ take count chunk.new) }
+    ensures bytes { let old = S.left source.old in
+        let new = S.left source.new in
+        IfOk result (λ count. Consumes old new (take count chunk.new)) }
     ensures end { IfOk result (λ count. count ≡ 0 → IsAtEnd (S.left source.new)) }
 
-    ensures fault { result ≡ Err ReadStop.Fault → Rose (S.faults source.old) (S.faults source.new) }
-    ensures lost { OnErr result (TakesSome (length chunk.old) (S.left source.old) (S.left source.new)) }
+    ensures fault { let before = S.faults source.old in
+        result ≡ Err ReadStop.Fault → Rose before (S.faults source.new) }
+    ensures lost { let limit = length chunk.old in
+        OnErr result (TakesSome limit (S.left source.old) (S.left source.new)) }
 {
     let Ok(count) = source.read(chunk) else {
         return Err(ReadStop::Fault);
@@ -81,10 +92,14 @@ fn read_chunk<S: Source>(
 /// byte.
 ///
 /// `Failed` comes only where the faults of the sink rose, or stand at the last value of u64. Then
-/// bytes from the front of `bytes` were written, but not all.
+/// a proper prefix of `bytes` was written.
 pub fn write_all<T: Sink>(sink: &mut T, bytes: &[u8]) -> Result<(), Failed>
-    ensures ok { OnOk result (Appends (T.written sink.old) (T.written sink.new) bytes.now) }
-    ensures failed { OnErr result (AppendsProperPrefix (T.written sink.old) (T.written sink.new) bytes.now) }
+    ensures ok { let old = T.written sink.old in
+        let new = T.written sink.new in
+        OnOk result (Appends old new bytes.now) }
+    ensures failed { let old = T.written sink.old in
+        let new = T.written sink.new in
+        OnErr result (AppendsProperPrefix old new bytes.now) }
     ensures cause { HasCause (T.faults sink.old) (T.faults sink.new) result }
 {
     let mut done = 0;

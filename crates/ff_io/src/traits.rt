@@ -18,8 +18,8 @@ pub trait Source {
 
     ghost faults: { Self → ℕ };
 
-    /// Moves bytes from the front of what is left into the front of `buf`, and returns their
-    /// number, at most the length of `buf`. At a `buf` that is not empty, 0 is the end of input.
+    /// Moves a prefix of what is left to the start of `buf`, and returns its length, at most the
+    /// length of `buf`. At a `buf` that is not empty, 0 is the end of input.
     ///
     /// `Failed` comes only where `faults` rose in this call or stands at the last value of u64.
     /// Then no byte was taken.
@@ -38,8 +38,7 @@ pub trait Sink {
 
     ghost faults: { Self → ℕ };
 
-    /// Takes bytes from the front of `bytes`, and returns their number: at most the length of
-    /// `bytes`, and at least 1 where `bytes` is not empty.
+    /// Takes a prefix of `bytes`, and returns its length: at least 1 where `bytes` is not empty.
     ///
     /// `Failed` comes only where `faults` rose in this call or stands at the last value of u64.
     /// Then no byte was taken.

@@ -12,12 +12,12 @@ use Rattle.ff_theory.proofs.Division.{one_division, mul_at, zero_from, top_nonze
 use Rattle.ff_theory.proofs.Gcd.{no_size}
 use Rattle.ff_theory.proofs.PolyMap.{zero_size, one_size, size_nonzero, polynomial_domain}
 use Rattle.ff_theory.proofs.LowestTerms.{cancel}
-use Rattle.ff_theory.proofs.Element.{IsLowest}
-use Rattle.ff_poly.specs.Words.{poly_of, IsPoly}
-use Rattle.ff_poly.specs.Monomial.{monomial}
-use Rattle.ff_theory.specs.Divides.{Divides}
-use Rattle.ff_poly.specs.Divisors.{leading, polys_of, products_with, IsGcdOfAll}
-use Rattle.ff_poly.proofs.Product.{poly-coeff}
+use Rattle.ff_theory.specs.LowestTerms.{IsLowest}
+use Rattle.ff_theory.specs.Values.{poly_of, IsPoly, leading, polys_of, products_with}
+use Rattle.ff_theory.specs.Monomial.{monomial}
+use Rattle.ff_theory.specs.Divides.{Divides, IsGcdOfAll}
+use Rattle.ff_theory.proofs.Values.{entry_at}
+use Rattle.ff_theory.proofs.Product.{poly-coeff, coeff_of}
 use Rattle.ff_poly.proofs.LongDivision.{poly-size}
 use Rattle.ff_poly.proofs.Gcd.{gcds-unit}
 use Rattle.ff_poly.proofs.Scaling.{lead-nonzero, led-length, led-leading, led-unit}
@@ -70,13 +70,19 @@ module _ {E : Type 0} (K : Elements E) (L : Lawful K) where
   F = lawful_field L
 
   -- the polynomial 1
-  pub one_poly : (p q : List E) (x : E) → q ≡ p → length q ≡ 1 → x ≡ get_or q 0 x → K.value x ≡ K.one → poly_of K p ≡ (polynomials K.ring).one
-  one_poly p q x e l h v = ap (poly_of K) (sym e) ∙ go q l h
+  pub one_poly : (p q : List E) (x : E) → q ≡ p → length q ≡ 1 → K.value (get_or q 0 x) ≡ K.one → poly_of K p ≡ (polynomials K.ring).one
+  one_poly p q x e l v = ap (poly_of K) (sym e) ∙ go q l v
     where
-      go : (q : List E) → length q ≡ 1 → x ≡ get_or q 0 x → poly_of K q ≡ (polynomials K.ring).one
-      go [] l h = absurd (omega arith)
-      go (y ∷ []) l h = ap (λ t. poly K.ring (t ∷ [])) (ap K.value (sym h) ∙ v)
-      go (y ∷ z ∷ q) l h = absurd (omega arith)
+      go : (q : List E) → length q ≡ 1 → K.value (get_or q 0 x) ≡ K.one → poly_of K q ≡ (polynomials K.ring).one
+      go [] l v = absurd (omega arith)
+      go (y ∷ []) l v = ap (λ t. poly K.ring (t ∷ [])) v
+      go (y ∷ z ∷ q) l v = absurd (omega arith)
+
+  pub one-length : (p : List E) → IsPoly K p → poly_of K p ≡ (polynomials K.ring).one → length p ≡ 1
+  one-length p h e = omega (arith, poly-size K.ring L.laws L.tests K.value p h.canonical, ap (size K.ring) e, one_size F)
+
+  pub one-value : (p : List E) (x : E) → length p ≡ 1 → poly_of K p ≡ (polynomials K.ring).one → K.value (get_or p 0 x) ≡ K.one
+  one-value p x l e = entry_at K p 0 x (omega (arith, l)) ∙ coeff_of K.ring L.laws L.tests (map K.value p) (K.one ∷ []) e 0
 
   -- the quotient by a divisor
   pub exact_division : (a b q r : Poly K.ring) → IsDivision K.ring a b q r → Divides (polynomials K.ring) b a → (polynomials K.ring).mul q b ≡ a

@@ -3,9 +3,8 @@ use Rattle.std.proofs.lemmas.Bool.{cases_lt}
 use Rattle.ff_theory.specs.Ring.{RingOps, IsCommRing}
 use Rattle.ff_theory.specs.Poly.{coeff}
 use Rattle.ff_theory.proofs.Solver.{◌⊕◌, ◌⊗◌, neg, nil, unit, ring1, ring3, ring4}
-use Rattle.ff_theory.specs.Divides.{Divides}
+use Rattle.ff_theory.specs.Divides.{Divides, IsGcd, IsGcdOfAll}
 use Rattle.ff_theory.proofs.Divides.{divides_trans}
-use Rattle.ff_poly.specs.Divisors.{IsGcd, IsGcdOfAll}
 
 module _ (R : RingOps) (laws : IsCommRing R) where
   -- Euclid's algorithm

@@ -7,10 +7,10 @@ use Rattle.ff_theory.proofs.Solver.{◌⊕◌, ◌⊗◌, neg, nil, ring1, ring2
 use Rattle.ff_theory.proofs.Poly.{trim_same, scale-coeff, polynomial_laws}
 use Rattle.ff_theory.proofs.Coeffs.{coeff-map, coeff-past, poly_ext, add_by_coeffs}
 use Rattle.ff_theory.proofs.Division.{size_le, top_nonzero}
-use Rattle.ff_poly.specs.Monomial.{raised, monomial}
-use Rattle.ff_poly.proofs.Monomial.{monomial-mul}
+use Rattle.ff_theory.specs.Monomial.{raised, monomial}
+use Rattle.ff_theory.proofs.Monomial.{monomial-mul}
 use Rattle.ff_poly.proofs.Negative.{neg_by_coeffs}
-use Rattle.ff_poly.proofs.Product.{poly-coeff, take-suc, zeros_poly}
+use Rattle.ff_theory.proofs.Product.{poly-coeff, take-suc, zeros_poly}
 
 -- a list whose first entries were replaced and the next one written
 take-written : {E : Type 0} (p q : List E) (n : ℕ) (y : E) → length p ≡ n → take n (set (p ++ q) n y) ≡ p

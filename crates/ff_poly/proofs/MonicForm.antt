@@ -10,10 +10,10 @@ use Rattle.ff_theory.proofs.Coeffs.{coeff-past, poly_ext}
 use Rattle.ff_theory.proofs.Division.{size-mul, coeff-beyond}
 use Rattle.ff_theory.proofs.Gcd.{no_size}
 use Rattle.ff_theory.proofs.PolyMap.{same_false}
-use Rattle.ff_poly.specs.Words.{poly_of, plane_of, IsPoly, IsPlane, x_size}
-use Rattle.ff_poly.specs.Monic.{monic_rows, monic_form, rows_of}
+use Rattle.ff_theory.specs.Values.{poly_of, plane_of, IsPlane, x_size}
+use Rattle.ff_theory.specs.Monic.{monic_rows, monic_form, rows_of}
 use Rattle.ff_poly.proofs.LongDivision.{poly-size}
-use Rattle.ff_poly.proofs.Rows.{row-value}
+use Rattle.ff_poly.proofs.RowLists.{row-value}
 
 -- the greatest of f 0, f 1, .. up to the place before n
 abbrev pub greatest : ℕ → (ℕ → ℕ) → ℕ
@@ -27,14 +27,6 @@ greatest-front (suc n) f = omega (arith, greatest-front n f)
 greatest-ext : (n : ℕ) (f g : ℕ → ℕ) → ((i : ℕ) → i < n → f i ≡ g i) → greatest n f ≡ greatest n g
 greatest-ext zero f g h = refl
 greatest-ext (suc n) f g h = ap₂ max (greatest-ext n f g (λ i l. h i (omega arith))) (h n (omega arith))
-
-pub greatest-bound : (n : ℕ) (f : ℕ → ℕ) (i : ℕ) → i < n → f i ≤ greatest n f
-greatest-bound zero f i l = absurd (omega arith)
-greatest-bound (suc n) f i l = go (cases_lt i n) (λ m. greatest-bound n f i m)
-  where
-    go : (i < n) ⊎ (n ≤ i) → (i < n → f i ≤ greatest n f) → f i ≤ max (greatest n f) (f n)
-    go (inl m) h = omega (arith, h m)
-    go (inr m) h = let e : i ≡ n = omega arith in omega (arith, ap f e)
 
 -- the degree of row i of the monic form, as the lengths of the rows tell it
 abbrev pub row_degree_of : {E : Type 0} → List (List E) → ℕ → ℕ → ℕ → ℕ
@@ -52,10 +44,6 @@ degree-some (suc l) y h = ap (λ b. cond b 0 (suc l - 1 + y) + 1) (ne_eqb (suc l
 greatest-suc : (n : ℕ) (d s : ℕ → ℕ) → ((i : ℕ) → i < n → d i + 1 ≡ max (s i) 1) → greatest n d + 1 ≡ max (greatest n s) 1
 greatest-suc zero d s h = omega arith
 greatest-suc (suc n) d s h = omega (arith, greatest-suc n d s (λ i l. h i (omega arith)), h n (omega arith))
-
-pub positive : (n : ℕ) → nat_eq n 0 ≡ false → 0 < n
-positive zero e = cc
-positive (suc n) e = omega arith
 
 module _ (R : RingOps) where
   -- a list with one entry pushed
@@ -198,16 +186,3 @@ module _ {E : Type 0} (K : Elements E) (laws : IsCommRing K.ring) (tests : IsTes
       (row-size rows n h (omega arith) ∙ sym (ap length hl) ∙ (let e : length lead ≡ suc m = omega arith in e))
       (λ i l z. degree-none (length (get_or rows i [])) ((n - 1 - i) * m) (sym (row-size rows i h (omega arith)) ∙ z))
       (λ i l z. degree-some (length (get_or rows i [])) ((n - 1 - i) * m) (omega (arith, row-size rows i h (omega arith), z)) ∙ ap (λ s. s + (n - 1 - i) * m) (sym (row-size rows i h (omega arith))))
-
-  pub rows_bound : (rows : List (List E)) (n m d : ℕ) (lead : List E) → length rows ≡ suc n → lead ≡ get_or rows n [] → m ≡ length lead - 1 → d ≡ greatest n (row_degree_of rows n m)
-      → (i : ℕ) → i + 1 < length rows → 0 < length (get_or rows i []) → length (get_or rows i []) + (length rows - 2 - i) * (length (get_or rows (length rows - 1) []) - 1) ≤ d + 1
-  rows_bound rows n m d lead ln hl hm hd i l pos =
-      let bound : row_degree_of rows n m i ≤ greatest n (row_degree_of rows n m) = greatest-bound n (row_degree_of rows n m) i (omega arith) in
-      let exact : row_degree_of rows n m i + 1 ≡ length (get_or rows i []) + (n - 1 - i) * m = degree-some (length (get_or rows i [])) ((n - 1 - i) * m) pos in
-      let same : (length rows - 2 - i) * (length (get_or rows (length rows - 1) []) - 1) ≡ (n - 1 - i) * m =
-      ap₂ (λ a b. a * b) (let e : length rows - 2 - i ≡ n - 1 - i = omega arith in e) (ap (λ k. length (get_or rows k []) - 1) (let e : length rows - 1 ≡ n = omega arith in e) ∙ ap (λ p. length p - 1) (sym hl) ∙ sym hm) in
-      omega (arith, bound, exact, same, hd)
-
-  -- the length of a power
-  pub power-length : (p r : List E) (e : ℕ) → IsPoly K p → IsPoly K r → 0 < length p → poly_of K r ≡ power (polynomials K.ring) (poly_of K p) e → length r ≡ suc (e * (length p - 1))
-  power-length p r e hp hr pos h = sym (poly-size K.ring laws tests K.value r hr.canonical) ∙ ap (size K.ring) h ∙ power-size K.ring laws tests K.inverse field (poly_of K p) (length p - 1) e (poly-size K.ring laws tests K.value p hp.canonical ∙ (let n : length p ≡ suc (length p - 1) = omega arith in n))

@@ -8,11 +8,12 @@ use Rattle.ff_theory.proofs.Division.{size-mul}
 use Rattle.ff_theory.proofs.Solver.{◌⊕◌, ◌⊗◌, neg, nil, unit, ring1, ring2, ring3, ring4, mul_zero}
 use Rattle.ff_theory.proofs.Poly.{polynomial_laws, polynomial_tests, scale-coeff}
 use Rattle.ff_theory.proofs.Coeffs.{coeff-past, add_by_coeffs}
-use Rattle.ff_poly.specs.Words.{poly_of, IsPoly, IsPlane, row_of, IsPseudoDivision}
-use Rattle.ff_poly.specs.Monomial.{raised, monomial}
-use Rattle.ff_poly.proofs.Monomial.{monomial-mul, raised-at, raised-below, raised-past}
+use Rattle.ff_theory.specs.Values.{poly_of, IsPoly, IsPlane}
+use Rattle.ff_theory.specs.Planes.{row_of, IsPseudoDivision}
+use Rattle.ff_theory.specs.Monomial.{raised, monomial}
+use Rattle.ff_theory.proofs.Monomial.{monomial-mul, raised-at, raised-below, raised-past}
 use Rattle.ff_poly.proofs.LongDivision.{last_nonzero, poly-size}
-use Rattle.ff_poly.proofs.Rows.{row-value, row-each}
+use Rattle.ff_poly.proofs.RowLists.{row-value, row-each}
 use Rattle.ff_poly.proofs.Negative.{neg_by_coeffs, neg-zero}
 
 -- a list of one entry
@@ -63,31 +64,39 @@ module _ (R : RingOps) (laws : IsCommRing R) (tests : IsTested R) where
   raised-scale (suc n) c p zero = sym (mul_zero R laws c)
   raised-scale (suc n) c p (suc i) = raised-scale n c p i
 
-  -- lists whose combination a loop computed, all but the last coefficient, which cancels
-  pub lower_by_loop : {A : Type 0} (f : A → R.carrier) (c t : R.carrier) (a b r : List A) (n at : ℕ) (d : A) → length a ≡ suc n → suc n ≡ at + length b → 0 < length b → length r ≡ n
+  -- lists whose combination a loop computed, where nothing is left past its end
+  pub combination_by_loop : {A : Type 0} (f : A → R.carrier) (c t : R.carrier) (a b r : List A) (n at : ℕ) → length r ≡ n
       → ((i : ℕ) → i < n → coeff R (map f r) i ≡ R.add (R.mul c (coeff R (map f a) i)) (R.mul t (coeff R (raised R at (map f b)) i)))
-      → R.add (R.mul c (coeff R (map f a) n)) (R.mul t (coeff R (map f b) (length b - 1))) ≡ R.zero
+      → ((i : ℕ) → n ≤ i → R.add (R.mul c (coeff R (map f a) i)) (R.mul t (coeff R (raised R at (map f b)) i)) ≡ R.zero)
       → poly R (map f r) ≡ (polynomials R).add ((polynomials R).mul (poly R (c ∷ [])) (poly R (map f a))) ((polynomials R).mul (monomial R t at) (poly R (map f b)))
-  lower_by_loop f c t a b r n at d la lb pos lr h top =
-      add_by_coeffs R laws tests (list_scale R c (map f a)) (raised R at (list_scale R t (map f b))) (map f r) (λ i. all i (cases_lt i n) ∙ sym (ap₂ R.add (scale-coeff R laws tests c (map f a) i) (raised-scale at t (map f b) i)))
+  combination_by_loop f c t a b r n at lr h past =
+      add_by_coeffs R laws tests (list_scale R c (map f a)) (raised R at (list_scale R t (map f b))) (map f r)
+      (λ i. all i (cases_lt i n) ∙ sym (ap₂ R.add (scale-coeff R laws tests c (map f a) i) (raised-scale at t (map f b) i)))
       ∙ sym (ap₂ (polynomials R).add (monomial-mul R laws tests 0 c (map f a)) (monomial-mul R laws tests at t (map f b)))
     where
-      size_b : length (map f b) ≡ length b
-      size_b = length-map b f
+      all : (i : ℕ) → (i < n) ⊎ (n ≤ i) → coeff R (map f r) i ≡ R.add (R.mul c (coeff R (map f a) i)) (R.mul t (coeff R (raised R at (map f b)) i))
+      all i (inl l) = h i l
+      all i (inr l) = coeff-past R f r i (omega arith) ∙ sym (past i l)
 
+  -- past the ends of both lists
+  pub past_rows : {A : Type 0} (f : A → R.carrier) (c t : R.carrier) (a b : List A) (at i : ℕ) → length a ≤ i → at + length b ≤ i
+      → R.add (R.mul c (coeff R (map f a) i)) (R.mul t (coeff R (raised R at (map f b)) i)) ≡ R.zero
+  past_rows f c t a b at i la lb =
+      ap₂ (λ x y. R.add (R.mul c x) (R.mul t y)) (coeff-past R f a i la) (raised-past R at (map f b) i (let e : length (map f b) ≡ length b = length-map b f in omega (arith, e)))
+      ∙ ring2 R laws (λ c t. c ⊗ nil ⊕ t ⊗ nil) (λ c t. nil) refl c t
+
+  -- from the last coefficients on, where these cancel
+  pub past_cancelled : {A : Type 0} (f : A → R.carrier) (c t : R.carrier) (a b : List A) (n at : ℕ) → length a ≡ suc n → suc n ≡ at + length b → 0 < length b
+      → R.add (R.mul c (coeff R (map f a) n)) (R.mul t (coeff R (map f b) (length b - 1))) ≡ R.zero
+      → (i : ℕ) → n ≤ i → R.add (R.mul c (coeff R (map f a) i)) (R.mul t (coeff R (raised R at (map f b)) i)) ≡ R.zero
+  past_cancelled f c t a b n at la lb pos top i l = go (cases_lt n i)
+    where
       last : coeff R (raised R at (map f b)) n ≡ coeff R (map f b) (length b - 1)
       last = raised-at R at (map f b) (length b - 1) n (omega arith)
 
-      none : R.add (R.mul c R.zero) (R.mul t R.zero) ≡ R.zero
-      none = ring2 R laws (λ c t. c ⊗ nil ⊕ t ⊗ nil) (λ c t. nil) refl c t
-
-      all : (i : ℕ) → (i < n) ⊎ (n ≤ i) → coeff R (map f r) i ≡ R.add (R.mul c (coeff R (map f a) i)) (R.mul t (coeff R (raised R at (map f b)) i))
-      all i (inl l) = h i l
-      all i (inr l) = coeff-past R f r i (omega arith) ∙ sym (go (cases_lt n i))
-        where
-          go : (n < i) ⊎ (i ≤ n) → R.add (R.mul c (coeff R (map f a) i)) (R.mul t (coeff R (raised R at (map f b)) i)) ≡ R.zero
-          go (inl m) = ap₂ (λ x y. R.add (R.mul c x) (R.mul t y)) (coeff-past R f a i (omega arith)) (raised-past R at (map f b) i (omega (arith, size_b))) ∙ none
-          go (inr m) = let e : i ≡ n = omega arith in ap (λ i. R.add (R.mul c (coeff R (map f a) i)) (R.mul t (coeff R (raised R at (map f b)) i))) e ∙ ap (λ x. R.add (R.mul c (coeff R (map f a) n)) (R.mul t x)) last ∙ top
+      go : (n < i) ⊎ (i ≤ n) → R.add (R.mul c (coeff R (map f a) i)) (R.mul t (coeff R (raised R at (map f b)) i)) ≡ R.zero
+      go (inl m) = past_rows f c t a b at i (omega arith) (omega arith)
+      go (inr m) = let e : i ≡ n = omega arith in ap (λ i. R.add (R.mul c (coeff R (map f a) i)) (R.mul t (coeff R (raised R at (map f b)) i))) e ∙ ap (λ x. R.add (R.mul c (coeff R (map f a) n)) (R.mul t x)) last ∙ top
 
   PL : IsCommRing (polynomials R)
   PL = polynomial_laws R laws tests

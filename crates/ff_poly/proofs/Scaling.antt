@@ -9,12 +9,12 @@ use Rattle.ff_theory.proofs.Poly.{scale-coeff, polynomial_laws}
 use Rattle.ff_theory.proofs.Coeffs.{coeff-past, poly_ext}
 use Rattle.ff_theory.proofs.Division.{const_mul_at, top_nonzero, size-mul}
 use Rattle.ff_theory.proofs.PolyMap.{same_false}
-use Rattle.ff_poly.specs.Words.{poly_of, IsPoly}
-use Rattle.ff_poly.specs.Monomial.{monomial}
-use Rattle.ff_poly.specs.Divisors.{leading, IsGcd}
-use Rattle.ff_poly.proofs.Words.{entry}
-use Rattle.ff_poly.proofs.Monomial.{monomial-mul}
-use Rattle.ff_poly.proofs.Product.{poly-coeff, times_zero}
+use Rattle.ff_theory.specs.Values.{poly_of, IsPoly, leading}
+use Rattle.ff_theory.specs.Monomial.{monomial}
+use Rattle.ff_theory.specs.Divides.{IsGcd}
+use Rattle.ff_theory.proofs.Values.{entry_at}
+use Rattle.ff_theory.proofs.Monomial.{monomial-mul}
+use Rattle.ff_theory.proofs.Product.{poly-coeff, times_zero}
 use Rattle.ff_poly.proofs.Gcd.{gcd-unit}
 use Rattle.ff_poly.proofs.LongDivision.{poly-size, monomial-mul-monomial}
 
@@ -31,8 +31,8 @@ module _ {E : Type 0} (K : Elements E) (L : Lawful K) where
   lead-nonzero p h l z = top_nonzero K.ring L.laws L.tests (poly_of K p) (length p - 1) (poly-size K.ring L.laws L.tests K.value p h.canonical ∙ omega (arith, l)) (poly-coeff K.ring L.laws L.tests (map K.value p) (length p - 1) ∙ z)
 
   -- the last entry that the code read
-  pub lead-entry : (p q m : List E) (x : E) → q ≡ p → m ≡ p → ¬ (length m ≡ 0) → x ≡ get_or q (length m - 1) x → K.value x ≡ leading K p
-  lead-entry p q m x hq hm some e = entry K q (length m - 1) x (omega (arith, ap length hq, ap length hm)) e ∙ ap₂ (λ q m. coeff K.ring (map K.value q) (length m - 1)) hq hm
+  pub lead-entry : (p q m : List E) (x : E) → q ≡ p → m ≡ p → ¬ (length m ≡ 0) → K.value (get_or q (length m - 1) x) ≡ leading K p
+  lead-entry p q m x hq hm some = entry_at K q (length m - 1) x (omega (arith, ap length hq, ap length hm)) ∙ ap₂ (λ q m. coeff K.ring (map K.value q) (length m - 1)) hq hm
 
   -- times a constant that is not 0
   pub scaled-size : (c : K.carrier) (p : Poly K.ring) (n : ℕ) → ¬ (c ≡ K.zero) → size K.ring p ≡ suc n → size K.ring ((polynomials K.ring).mul (monomial K.ring c 0) p) ≡ suc n

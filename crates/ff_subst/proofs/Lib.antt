@@ -1,8 +1,11 @@
-pub mod Columns
+-- Polynomials and planes modulo m
 pub mod Congruences
-pub mod NearPlanes
+pub mod Residues
 pub mod Remainders
-pub mod Numerators
-pub mod Evaluation
-pub mod Size
+-- Residues of elements in code
+pub mod ResidueLemmas
+-- Columns and values
+pub mod Columns
+pub mod HornerLemmas
 pub mod PairValues
+pub mod PairLemmas

@@ -1,4 +1,7 @@
--- Polynomials known modulo a polynomial in x, elements cleared of denominators, and columns.
-pub mod Near
-pub mod Cleared
+-- Polynomials and elements modulo a polynomial m in x
+pub mod Congruence
+pub mod Residues
+-- Pairs that are substituted
 pub mod Columns
+pub mod Powers
+pub mod Inverse

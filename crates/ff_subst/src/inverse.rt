@@ -1,49 +1,47 @@
 // Values of elements, satisfying pairs and inverse pairs.
-ghost use Rattle.std.specs.Prelude.{◌≡◌, ◌+◌, ◌≤◌, ◌↔◌, IfOk, IfSome, IfNone, IsTrue, [], length};
+ghost use Rattle.std.specs.Prelude.{◌≡◌, ◌+◌, ◌↔◌, IfOk, IfSome, IfNone, IsTrue, length};
 ghost use Rattle.std.specs.List.{All};
-ghost use Rattle.ff_poly.specs.Words.{IsPoly, IsPlane};
+ghost use Rattle.ff_theory.specs.Values.{IsPoly, IsPlane};
 ghost use Rattle.ff_elem.specs.Elem.{elem_of, IsElem};
-ghost use Rattle.ff_subst.specs.Cleared.{IsMatrix, ArePowers};
-ghost use Rattle.ff_data.specs.Pairs.{IsPair, Satisfies, HasValue, ValueIs, Undoes, IsInversePair};
+ghost use Rattle.ff_data.specs.Pairs.{IsPair, Satisfies, HasValue, ValueIs, IsInversePair};
+ghost use Rattle.ff_theory.specs.Values.{ArePolys};
 
-use crate::cleared::{matrix_of, powers_of};
-use crate::equal::{agrees, modulus, vanishes};
-use crate::values::{At, plane_at};
-use ff_alg::{Coefficient, FiniteField, NoMemory, Steps};
+use crate::modulus::{modulus, seed};
+use crate::powers::prepare;
+use crate::tests::{may_invert, vanishes};
+use crate::values::{inverts, is_zero_at, value_of_poly, value_of_rows};
+use ff_alg::{FiniteField, NoMemory, Steps};
 use ff_data::Pair;
 use ff_elem::{Alg, Elem, InvFault};
-use ff_poly::{Plane, Poly};
+use ff_poly::Plane;
 use std::alloc::Global;
-use std::slice;
 use std::sync::ledger::Ledger;
 
 /// The value s(X, Y) of an element s of E(f) at a pair (X, Y) of E(g), g being the equation of
 /// `alg2`: the value of the numerators at X and Y, times the inverse of the denominator at X.
 ///
-/// None comes exactly where the denominator of s at X has no inverse. The only error is want of
-/// memory. This project's own.
-pub fn substitute<K: FiniteField>(
+/// None comes exactly where the denominator of s at X has no inverse.
+/// The only error is `NoMemory`, out of memory. This project's own.
+pub fn substitute<K: FiniteField<E = u32>>(
     alloc: Global,
     alg2: &Alg<K>,
-    s: &Elem<K::E>,
-    pair: &Pair<K::E>,
-) -> Result<Option<Elem<K::E>>, NoMemory>
-where
-    K::E: Coefficient,
+    s: &Elem,
+    pair: &Pair,
+) -> Result<Option<Elem>, NoMemory>
     requires pair { IsPair (K.lawful alg2.now.k) alg2.now.f pair.now }
     requires den { IsPoly (K.elements alg2.now.k) s.now.den }
-    requires num { All (λ p. IsPoly (K.elements alg2.now.k) p) s.now.num }
-    ensures element { IfOk result (λ v. IfSome v (λ r. IsElem (K.lawful alg2.now.k) alg2.now.f r)) }
-    ensures value { IfOk result (λ v. IfSome v (λ r. ValueIs (K.lawful alg2.now.k) alg2.now.f s.now pair.now (elem_of (K.lawful alg2.now.k) alg2.now.f r))) }
-    ensures none { IfOk result (λ v. IfNone v (¬ HasValue (K.lawful alg2.now.k) alg2.now.f s.now pair.now)) }
+    requires num { ArePolys (K.elements alg2.now.k) s.now.num }
+    ensures element { let L = K.lawful alg2.now.k in let g = alg2.now.f in
+        IfOk result (λ v. IfSome v (IsElem L g)) }
+    ensures value { let L = K.lawful alg2.now.k in let g = alg2.now.f in
+        IfOk result (λ v. IfSome v (λ r. ValueIs L g s.now pair.now (elem_of L g r))) }
+    ensures none { let L = K.lawful alg2.now.k in let g = alg2.now.f in
+        IfOk result (λ v. IfNone v (¬ HasValue L g s.now pair.now)) }
 {
-    let x = matrix_of(alloc, alg2, &pair.x)?;
-    let y = powers_of(alloc, alg2, &pair.y, s.num.rows().len().max(1))?;
-    let at = At { pair, x: &x, y: &y };
-    let den = plane_at(alloc, alg2, &at, slice::from_ref(&s.den))?;
+    let den = value_of_poly(alloc, alg2, &pair.x, &s.den)?;
     match alg2.inverse(alloc, &den) {
         Ok(inverse) => {
-            let num = plane_at(alloc, alg2, &at, s.num.rows())?;
+            let num = value_of_rows(alloc, alg2, pair, s.num.rows())?;
             let value = alg2.mul(alloc, &num, &inverse)?;
             Ok(Some(value))
         }
@@ -52,145 +50,111 @@ where
     }
 }
 
-/// Whether a pair of E(g), g being the equation of `alg2`, satisfies f: `f(X, Y) = 0`. The only
-/// error is want of memory. This project's own.
-pub fn satisfies<K: FiniteField>(
+// Whether a pair may satisfy f, by a test modulo a polynomial in x.
+fn may_satisfy<K: FiniteField<E = u32>>(
     alloc: Global,
-    f: &Plane<K::E>,
     alg2: &Alg<K>,
-    pair: &Pair<K::E>,
+    f: &Plane,
+    pair: &Pair,
 ) -> Result<bool, NoMemory>
-where
-    K::E: Coefficient,
     requires f { IsPlane (K.elements alg2.now.k) f.now }
     requires pair { IsPair (K.lawful alg2.now.k) alg2.now.f pair.now }
-    ensures { IfOk result (λ r. IsTrue r ↔ Satisfies (K.lawful alg2.now.k) f.now alg2.now.f pair.now) }
+    ensures { let L = K.lawful alg2.now.k in let g = alg2.now.f in
+        IfOk result (λ r. Satisfies L f.now g pair.now → IsTrue r) }
 {
-    let x = matrix_of(alloc, alg2, &pair.x)?;
-    let y = powers_of(alloc, alg2, &pair.y, f.rows().len())?;
-    let at = At { pair, x: &x, y: &y };
-    let m = modulus(alloc, &alg2.k)?;
-    let possible = vanishes(alloc, alg2, &m, &at, f.rows())?;
-    if !possible {
-        return Ok(false);
-    }
-    let zero = Poly::zero(alloc);
-    vanishes(alloc, alg2, &zero, &at, f.rows())
+    let m = modulus(alloc, &alg2.k, seed(f, &alg2.f, pair, pair))?;
+    let at = prepare(alloc, alg2, &m, pair, f.rows().len())?;
+    vanishes(alloc, alg2, &m, &at, f.rows())
 }
 
-// Whether s has a value at the pair.
-fn is_defined<K: FiniteField>(
-    alloc: Global,
-    alg2: &Alg<K>,
-    s: &Elem<K::E>,
-    at: &At<'_, K::E>,
-) -> Result<bool, NoMemory>
-where
-    K::E: Coefficient,
-    requires x { IsMatrix (K.lawful alg2.now.k) alg2.now.f [] (elem_of (K.lawful alg2.now.k) alg2.now.f at.now.pair.now.x) at.now.x.now }
-    requires y { ArePowers (K.lawful alg2.now.k) alg2.now.f [] (elem_of (K.lawful alg2.now.k) alg2.now.f at.now.pair.now.y) at.now.y.now }
-    requires den { IsPoly (K.elements alg2.now.k) s.now.den }
-    requires some { 1 ≤ length at.now.y.now.planes }
-    ensures { IfOk result (λ r. IsTrue r ↔ HasValue (K.lawful alg2.now.k) alg2.now.f s.now at.now.pair.now) }
-{
-    let den = plane_at(alloc, alg2, at, slice::from_ref(&s.den))?;
-    match alg2.inverse(alloc, &den) {
-        Ok(_) => Ok(true),
-        Err(InvFault::ZeroDivisor { u: _ }) => Ok(false),
-        Err(InvFault::NoMemory) => Err(NoMemory),
-    }
-}
-
-// Whether s(X, Y) is v.
-fn takes<K: FiniteField>(
-    alloc: Global,
-    alg2: &Alg<K>,
-    s: &Elem<K::E>,
-    pair: &Pair<K::E>,
-    v: &Elem<K::E>,
-) -> Result<bool, NoMemory>
-where
-    K::E: Coefficient,
-    requires pair { IsPair (K.lawful alg2.now.k) alg2.now.f pair.now }
-    requires den { IsPoly (K.elements alg2.now.k) s.now.den }
-    requires num { All (λ p. IsPoly (K.elements alg2.now.k) p) s.now.num }
-    requires v { IsElem (K.lawful alg2.now.k) alg2.now.f v.now }
-    ensures { IfOk result (λ r. IsTrue r ↔ ValueIs (K.lawful alg2.now.k) alg2.now.f s.now pair.now (elem_of (K.lawful alg2.now.k) alg2.now.f v.now)) }
-{
-    let x = matrix_of(alloc, alg2, &pair.x)?;
-    let y = powers_of(alloc, alg2, &pair.y, s.num.rows().len().max(1))?;
-    let at = At { pair, x: &x, y: &y };
-    let matrix = matrix_of(alloc, alg2, v)?;
-    let m = modulus(alloc, &alg2.k)?;
-    let possible = agrees(alloc, alg2, &m, &at, s, &matrix)?;
-    if !possible {
-        return Ok(false);
-    }
-    let zero = Poly::zero(alloc);
-    let agreeing = agrees(alloc, alg2, &zero, &at, s, &matrix)?;
-    if !agreeing {
-        return Ok(false);
-    }
-    is_defined(alloc, alg2, s, &at)
-}
-
-// Whether (U, V) undoes (X, Y): X(U, V) is x and Y(U, V) is y.
-fn undoes<K: FiniteField>(
-    alloc: Global,
-    alg: &Alg<K>,
-    pair: &Pair<K::E>,
-    back: &Pair<K::E>,
-) -> Result<bool, NoMemory>
-where
-    K::E: Coefficient,
-    requires back { IsPair (K.lawful alg.now.k) alg.now.f back.now }
-    requires x_den { IsPoly (K.elements alg.now.k) pair.now.x.den }
-    requires x_num { All (λ p. IsPoly (K.elements alg.now.k) p) pair.now.x.num }
-    requires y_den { IsPoly (K.elements alg.now.k) pair.now.y.den }
-    requires y_num { All (λ p. IsPoly (K.elements alg.now.k) p) pair.now.y.num }
-    ensures { IfOk result (λ r. IsTrue r ↔ Undoes (K.lawful alg.now.k) alg.now.f pair.now back.now) }
-{
-    let x = alg.x(alloc)?;
-    let takes_x = takes(alloc, alg, &pair.x, back, &x)?;
-    if !takes_x {
-        return Ok(false);
-    }
-    let y = alg.y(alloc)?;
-    takes(alloc, alg, &pair.y, back, &y)
-}
-
-/// Whether a pair of E(g) satisfies f, the equations being those of `alg2` and `alg1`, and `back` is
-/// its inverse pair: it satisfies (g, f), and X(U, V), Y(U, V), U(X, Y) and V(X, Y) are x, y, x and y.
+/// Whether a pair of E(g), g being the equation of `alg2`, satisfies f: `f(X, Y) = 0`.
 ///
-/// It ticks `tests` once. The only error is want of memory. This project's own.
-pub fn is_inverse<K: FiniteField, L: Ledger>(
+/// The only error is `NoMemory`, out of memory. This project's own.
+pub fn satisfies<K: FiniteField<E = u32>>(
+    alloc: Global,
+    f: &Plane,
+    alg2: &Alg<K>,
+    pair: &Pair,
+) -> Result<bool, NoMemory>
+    requires f { IsPlane (K.elements alg2.now.k) f.now }
+    requires pair { IsPair (K.lawful alg2.now.k) alg2.now.f pair.now }
+    ensures { let L = K.lawful alg2.now.k in let g = alg2.now.f in
+        IfOk result (λ r. IsTrue r ↔ Satisfies L f.now g pair.now) }
+{
+    let possible = may_satisfy(alloc, alg2, f, pair)?;
+    if !possible {
+        return Ok(false);
+    }
+    is_zero_at(alloc, alg2, f, pair)
+}
+
+// Whether the pairs may be inverse, by tests modulo a polynomial in x.
+fn may_be_inverse<K: FiniteField<E = u32>>(
     alloc: Global,
     alg1: &Alg<K>,
     alg2: &Alg<K>,
-    pair: &Pair<K::E>,
-    back: &Pair<K::E>,
-    tests: &mut Steps<L>,
+    pair: &Pair,
+    back: &Pair,
 ) -> Result<bool, NoMemory>
-where
-    K::E: Coefficient,
     requires field { alg1.now.k ≡ alg2.now.k }
     requires pair { IsPair (K.lawful alg2.now.k) alg2.now.f pair.now }
     requires back { IsPair (K.lawful alg1.now.k) alg1.now.f back.now }
-    ensures inverse { IfOk result (λ r. IsTrue r ↔ IsInversePair (K.lawful alg2.now.k) alg1.now.f alg2.now.f pair.now back.now) }
+    ensures { let L = K.lawful alg2.now.k in let f = alg1.now.f in let g = alg2.now.f in
+        IfOk result (λ r. IsInversePair L f g pair.now back.now → IsTrue r) }
+{
+    let m = modulus(alloc, &alg2.k, seed(&alg1.f, &alg2.f, pair, back))?;
+    let possible = may_invert(alloc, alg2, &m, &alg1.f, pair, back)?;
+    if !possible {
+        return Ok(false);
+    }
+    may_invert(alloc, alg1, &m, &alg2.f, back, pair)
+}
+
+// Whether the pairs are inverse, by exact values.
+fn are_inverse<K: FiniteField<E = u32>>(
+    alloc: Global,
+    alg1: &Alg<K>,
+    alg2: &Alg<K>,
+    pair: &Pair,
+    back: &Pair,
+) -> Result<bool, NoMemory>
+    requires field { alg1.now.k ≡ alg2.now.k }
+    requires pair { IsPair (K.lawful alg2.now.k) alg2.now.f pair.now }
+    requires back { IsPair (K.lawful alg1.now.k) alg1.now.f back.now }
+    ensures { let L = K.lawful alg2.now.k in let f = alg1.now.f in let g = alg2.now.f in
+        IfOk result (λ r. IsTrue r ↔ IsInversePair L f g pair.now back.now) }
+{
+    let there = inverts(alloc, alg2, &alg1.f, pair, back)?;
+    if !there {
+        return Ok(false);
+    }
+    inverts(alloc, alg1, &alg2.f, back, pair)
+}
+
+/// Whether a pair of E(g) satisfies f, the equations being those of `alg2` and `alg1`, and `back`
+/// is its inverse pair: it satisfies (g, f), and X(U, V), Y(U, V), U(X, Y) and V(X, Y) are x, y, x
+/// and y.
+///
+/// It ticks `tests` once. The only error is `NoMemory`, out of memory. This project's own.
+pub fn is_inverse<K: FiniteField<E = u32>, L: Ledger>(
+    alloc: Global,
+    alg1: &Alg<K>,
+    alg2: &Alg<K>,
+    pair: &Pair,
+    back: &Pair,
+    tests: &mut Steps<L>,
+) -> Result<bool, NoMemory>
+    requires field { alg1.now.k ≡ alg2.now.k }
+    requires pair { IsPair (K.lawful alg2.now.k) alg2.now.f pair.now }
+    requires back { IsPair (K.lawful alg1.now.k) alg1.now.f back.now }
+    ensures inverse { let L = K.lawful alg2.now.k in let f = alg1.now.f in let g = alg2.now.f in
+        IfOk result (λ r. IsTrue r ↔ IsInversePair L f g pair.now back.now) }
     ensures tests { tests.new ≡ tests.old + 1 }
 {
     tests.tick();
-    let satisfying = satisfies(alloc, &alg1.f, alg2, pair)?;
-    if !satisfying {
+    let possible = may_be_inverse(alloc, alg1, alg2, pair, back)?;
+    if !possible {
         return Ok(false);
     }
-    let back_satisfying = satisfies(alloc, &alg2.f, alg1, back)?;
-    if !back_satisfying {
-        return Ok(false);
-    }
-    let undone = undoes(alloc, alg1, pair, back)?;
-    if !undone {
-        return Ok(false);
-    }
-    undoes(alloc, alg2, back, pair)
+    are_inverse(alloc, alg1, alg2, pair, back)
 }

@@ -1,10 +1,13 @@
-//! Elements of E(g) put for x and y: values of elements of E(f), satisfying pairs and inverse pairs.
+//! Elements of E(g) put for x and y: values of elements of E(f), satisfying pairs, inverse pairs.
 #![tactic(auto)]
 
-mod cleared;
-mod equal;
+mod evaluation;
 mod inverse;
-mod near;
+mod modulo;
+mod modulus;
+mod powers;
+mod residue;
+mod tests;
 mod values;
 
 pub use inverse::{is_inverse, satisfies, substitute};

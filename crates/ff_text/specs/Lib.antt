@@ -1,10 +1,16 @@
+-- The words of the contracts of texts.
+
+-- The grammar: what a byte means, the texts and their values, and the reader.
+pub mod Symbols
 pub mod Grammar
-pub mod Limits
-pub mod Made
-pub mod Printed
-pub mod Ratios
 pub mod Reading
 pub mod Reads
+-- What a text stands for: sums of like terms, their limits, the job and the faults.
 pub mod Sums
-pub mod Symbols
+pub mod Ratios
+pub mod Limits
+pub mod Parts
 pub mod Values
+-- Printed texts: faults and polynomials, then elements and lists.
+pub mod Printed
+pub mod Lists

@@ -1,6 +1,10 @@
 -- Tests on the terms of a sum, and the first fault that they find.
-use Rattle.std.specs.Prelude.{ℕ, ◌+◌, ◌-◌, ◌*◌, ◌==◌, ◌&&◌, ◌||◌, nat_lt, not, min, Bool, false, List, [], ◌∷◌, length, take, drop, Option, Some, None, position, if◌then◌else◌}
+use Rattle.std.specs.Prelude.{ℕ, ◌+◌, ◌-◌, ◌*◌, ◌==◌, ◌&&◌, ◌||◌, nat_lt, not, min, Bool, false}
+use Rattle.std.specs.Prelude.{List, [], ◌∷◌, length, take, drop, Option, Some, None, position}
+use Rattle.std.specs.Prelude.{if◌then◌else◌}
 use Rattle.std.specs.List.{list_any, fold}
+use Rattle.ff_poly.specs.declared.limits.TheConstants.{MAX_X_DEGREE, MAX_Y_DEGREE, MAX_MONIC_DEGREE}
+use Rattle.ff_text.specs.declared.limits.TheConstants.{MAX_ELEM_X_DEGREE, MAX_ELEM_Y_DEGREE}
 use Rattle.ff_text.specs.declared.fault.TextFault.{TextFault}
 use Rattle.ff_text.specs.declared.fault.TextFault.TheVariants as fault
 use Rattle.ff_text.specs.declared.reader.Monomial.{Monomial}
@@ -10,8 +14,8 @@ abbrev pub has_y : List Monomial → Bool
 has_y ms = list_any (λ (m : Monomial). nat_lt 0 m.y) ms
 
 -- some power of x is above the first number, or some power of y above the second
-abbrev pub passes : ℕ → ℕ → List Monomial → Bool
-passes x y ms = list_any (λ (m : Monomial). nat_lt x m.x || nat_lt y m.y) ms
+abbrev pub exceeds : ℕ → ℕ → List Monomial → Bool
+exceeds x y ms = list_any (λ (m : Monomial). nat_lt x m.x || nat_lt y m.y) ms
 
 -- a higher power of y, or the same one and a higher power of x
 abbrev pub is_above : Monomial → Monomial → Bool
@@ -28,9 +32,9 @@ abbrev pub raises : ℕ → Monomial → Monomial → Bool
 raises limit t m = nat_lt m.y t.y && nat_lt limit (m.x + (t.y - 1 - m.y) * t.x)
 
 -- the degree of the monic form is above the limit
-unfoldable pub monic_passes : ℕ → List Monomial → Bool
-monic_passes limit [] = false
-monic_passes limit (first ∷ rest) =
+unfoldable pub monic_exceeds : ℕ → List Monomial → Bool
+monic_exceeds limit [] = false
+monic_exceeds limit (first ∷ rest) =
     list_any (raises limit (top first rest)) (first ∷ rest)
 
 abbrev pub lacks_y : Ratio → Bool
@@ -39,11 +43,15 @@ lacks_y r = not (has_y r.numerator.items)
 abbrev pub is_over_zero : Ratio → Bool
 is_over_zero r = length r.denominator.items == 0
 
-abbrev pub equation_passes : Ratio → Bool
-equation_passes r = passes 12 6 r.numerator.items || monic_passes 24 r.numerator.items
+abbrev pub equation_exceeds : Ratio → Bool
+equation_exceeds r =
+    exceeds MAX_X_DEGREE MAX_Y_DEGREE r.numerator.items
+    || monic_exceeds MAX_MONIC_DEGREE r.numerator.items
 
-abbrev pub element_passes : Ratio → Bool
-element_passes r = passes 512 64 r.numerator.items || passes 512 64 r.denominator.items
+abbrev pub element_exceeds : Ratio → Bool
+element_exceeds r =
+    exceeds MAX_ELEM_X_DEGREE MAX_ELEM_Y_DEGREE r.numerator.items
+    || exceeds MAX_ELEM_X_DEGREE MAX_ELEM_Y_DEGREE r.denominator.items
 
 -- the first two lines, and the others
 abbrev pub equations : List Ratio → List Ratio
@@ -60,6 +68,6 @@ if_some (Some i) f o = Some (f i)
 unfoldable pub first_fault : List Ratio → Option TextFault
 first_fault rs = if_some (position lacks_y (equations rs)) (λ i. fault.NoY (i + 1))
     (if_some (position is_over_zero (elements rs)) (λ i. fault.ZeroDenominator (i + 3))
-    (if_some (position equation_passes (equations rs)) (λ i. fault.Degree (i + 1))
-    (if_some (position element_passes (elements rs)) (λ i. fault.Degree (i + 3))
+    (if_some (position equation_exceeds (equations rs)) (λ i. fault.Degree (i + 1))
+    (if_some (position element_exceeds (elements rs)) (λ i. fault.Degree (i + 3))
     None)))

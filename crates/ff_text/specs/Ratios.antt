@@ -9,9 +9,10 @@ use Rattle.ff_text.specs.declared.sums.Ratio.{Ratio}
 use Rattle.ff_text.specs.Grammar.{monomial}
 use Rattle.ff_text.specs.Sums.{IsCollected}
 
--- the terms of the denominator, which is 1 where none stands
+-- the terms of the denominator, which is 1 where there is none
 abbrev pub denominator_of : Fraction → List Monomial
-denominator_of f = unwrap_or (option_map (λ (v : Vec Monomial). v.items) f.denominator) (monomial 1 0 0 ∷ [])
+denominator_of f =
+    unwrap_or (option_map (λ (v : Vec Monomial). v.items) f.denominator) (monomial 1 0 0 ∷ [])
 
 pub record IsRatio (p : ℕ) (f : Fraction) (r : Ratio) : Type 0 where
   pub numerator : IsCollected p f.numerator.items r.numerator.items

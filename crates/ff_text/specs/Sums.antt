@@ -1,10 +1,11 @@
 -- The sum of terms, with like terms added modulo p.
-use Rattle.std.specs.Prelude.{◌≡◌, ℕ, ◌%◌, ◌<◌, ◌==◌, ◌&&◌, List, [], slice_index, slice_index_or, slice_set, if◌then◌else◌}
+use Rattle.std.specs.Prelude.{◌≡◌, ℕ, ◌%◌, ◌<◌, ◌==◌, ◌&&◌, List, [], slice_index, slice_index_or}
+use Rattle.std.specs.Prelude.{slice_set, if◌then◌else◌}
 use Rattle.std.specs.declared.cmp.Ordering.{Ordering}
 use Rattle.std.specs.Ordering.{ordering_then, nat_cmp}
 use Rattle.std.specs.List.{sum_by, Any, All, fold}
 use Rattle.ff_theory.specs.PrimeTable.{prime_elements}
-use Rattle.ff_poly.specs.Words.{IsPoly, IsPlane}
+use Rattle.ff_theory.specs.Values.{IsPoly, IsPlane}
 use Rattle.ff_text.specs.declared.reader.Monomial.{Monomial}
 
 -- what a term adds to the coefficient of x^i*y^j

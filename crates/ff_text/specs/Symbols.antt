@@ -14,7 +14,8 @@ is_digit b = nat_le 48 b && nat_le b 57
 
 -- a letter that a line begins with: p, f, g, X, Y, U or V
 abbrev pub is_letter : ℕ → Bool
-is_letter b = (b == 112) || (b == 102) || (b == 103) || (b == 88) || (b == 89) || (b == 85) || (b == 86)
+is_letter b =
+    (b == 112) || (b == 102) || (b == 103) || (b == 88) || (b == 89) || (b == 85) || (b == 86)
 
 unfoldable pub symbol_of : ℕ → Symbol
 symbol_of b =

@@ -1,12 +1,16 @@
 -- What a text stands for, and the faults of its values.
-use Rattle.std.specs.Prelude.{◌≡◌, ℕ, ◌+◌, ◌-◌, ◌*◌, ◌<◌, ◌≤◌, ◌⊎◌, IsTrue, List, [], ◌∷◌, length, map, Option, Some, None, Result, Ok, Err}
+use Rattle.std.specs.Prelude.{◌≡◌, ℕ, ◌+◌, ◌-◌, ◌*◌, ◌<◌, ◌≤◌, ◌⊎◌, IsTrue, List, [], ◌∷◌, length}
+use Rattle.std.specs.Prelude.{map, Option, Some, None, Result, Ok, Err}
 use Rattle.std.specs.List.{AllZip, HoldsAt}
-use Rattle.ff_theory.specs.PrimeTable.{primes, is_in}
+use Rattle.ff_theory.specs.PrimeTable.{primes, is_in, prime_elements}
 use Rattle.ff_prime.specs.Number.{number_of}
+use Rattle.ff_poly.specs.declared.limits.TheConstants.{MAX_X_DEGREE, MAX_Y_DEGREE, MAX_MONIC_DEGREE}
+use Rattle.ff_poly.specs.Limits.{IsEquation}
 use Rattle.ff_text.specs.declared.fault.TextFault.{TextFault}
 use Rattle.ff_text.specs.declared.fault.TextFault.TheVariants as fault
 use Rattle.ff_text.specs.declared.job.RawElem.{RawElem}
 use Rattle.ff_text.specs.declared.job.Job.{Job}
+use Rattle.ff_text.specs.declared.limits.TheConstants.{MAX_ELEM_X_DEGREE, MAX_ELEM_Y_DEGREE}
 use Rattle.ff_text.specs.declared.reader.Monomial.{Monomial}
 use Rattle.ff_text.specs.Grammar.{monomial, Term, Entry, Text}
 use Rattle.ff_text.specs.Reading.{reduced_term}
@@ -20,7 +24,7 @@ terms_of p ts = map (reduced_term p) ts
 abbrev pub numerator_of : ℕ → Entry → List Monomial
 numerator_of p e = terms_of p e.numerator
 
--- the denominator is 1 where none stands
+-- the denominator is 1 where there is none
 abbrev pub terms_or_one : ℕ → Option (List Term) → List Monomial
 terms_or_one p None = monomial 1 0 0 ∷ []
 terms_or_one p (Some ts) = terms_of p ts
@@ -28,7 +32,7 @@ terms_or_one p (Some ts) = terms_of p ts
 abbrev pub denominator_of : ℕ → Entry → List Monomial
 denominator_of p e = terms_or_one p e.denominator
 
--- ---- Degrees. Like terms are added before any degree is judged.
+-- ---- Degrees. Like terms are added before any degree is taken.
 
 -- x^i*y^j occurs in the sum of the terms
 abbrev pub Occurs : ℕ → List Monomial → ℕ → ℕ → Type 0
@@ -55,7 +59,8 @@ pub record IsLeading (p : ℕ) (ms : List Monomial) (d n : ℕ) : Type 0 where
   pub occurs : Occurs p ms d n
   pub greatest : (i j : ℕ) → Occurs p ms i j → (j < n) ⊎ ((j ≡ n) × (i ≤ d))
 
--- The degree in x of the monic form is above the limit: row j of it, for j below n, is row j times the (n-1-j)-th power of row n.
+-- The degree in x of the monic form is above the limit: row j of it, for j below n, is row j times
+-- the (n-1-j)-th power of row n.
 pub record IsMonicAbove (limit p : ℕ) (ms : List Monomial) : Type 0 where
   pub d : ℕ
   pub n : ℕ
@@ -74,11 +79,15 @@ LacksY p e = HasY p (numerator_of p e) → ⊥
 abbrev pub IsOverZero : ℕ → Entry → Type 0
 IsOverZero p e = IsZero p (denominator_of p e)
 
-abbrev pub EquationPasses : ℕ → Entry → Type 0
-EquationPasses p e = IsAbove 12 6 p (numerator_of p e) ⊎ IsMonicAbove 24 p (numerator_of p e)
+abbrev pub EquationExceeds : ℕ → Entry → Type 0
+EquationExceeds p e =
+    IsAbove MAX_X_DEGREE MAX_Y_DEGREE p (numerator_of p e)
+    ⊎ IsMonicAbove MAX_MONIC_DEGREE p (numerator_of p e)
 
-abbrev pub ElementPasses : ℕ → Entry → Type 0
-ElementPasses p e = IsAbove 512 64 p (numerator_of p e) ⊎ IsAbove 512 64 p (denominator_of p e)
+abbrev pub ElementExceeds : ℕ → Entry → Type 0
+ElementExceeds p e =
+    IsAbove MAX_ELEM_X_DEGREE MAX_ELEM_Y_DEGREE p (numerator_of p e)
+    ⊎ IsAbove MAX_ELEM_X_DEGREE MAX_ELEM_Y_DEGREE p (denominator_of p e)
 
 -- entry w, counted from 1
 abbrev pub IsEntry : (Entry → Type 0) → List Entry → ℕ → Type 0
@@ -90,7 +99,9 @@ Says v (fault.Syntax at) = ⊥
 Says v fault.NotPrime = IsTrue (is_in v.number primes) → ⊥
 Says v (fault.NoY w) = (w ≤ 2) × IsEntry (LacksY v.number) v.entries w
 Says v (fault.ZeroDenominator w) = (3 ≤ w) × IsEntry (IsOverZero v.number) v.entries w
-Says v (fault.Degree w) = ((w ≤ 2) × IsEntry (EquationPasses v.number) v.entries w) ⊎ ((3 ≤ w) × IsEntry (ElementPasses v.number) v.entries w)
+Says v (fault.Degree w) =
+    ((w ≤ 2) × IsEntry (EquationExceeds v.number) v.entries w)
+    ⊎ ((3 ≤ w) × IsEntry (ElementExceeds v.number) v.entries w)
 Says v fault.NoMemory = ⊥
 
 -- Faults come in the order of their causes, and faults of one cause in the order of the entries.
@@ -134,6 +145,11 @@ HoldsEntries p (e ∷ f ∷ es) job = IsEquations p e f job × AllZip (IsElement
 pub record IsJob (v : Text) (job : Job) : Type 0 where
   pub prime : number_of job.prime ≡ v.number
   pub entries : HoldsEntries v.number v.entries job
+
+-- the equations of a job over its field
+pub record HasEquations (job : Job) : Type 0 where
+  pub first : IsEquation (prime_elements (number_of job.prime)) job.first
+  pub second : IsEquation (prime_elements (number_of job.prime)) job.second
 
 -- the job of a text, or its first fault, unless memory runs out
 abbrev pub Answers : Text → Result Job TextFault → Type 0

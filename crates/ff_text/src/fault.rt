@@ -4,14 +4,16 @@ ghost use Rattle.std.specs.Prelude.{◌≡◌};
 use ff_alg::NoMemory;
 use std::alloc::{AllocError, AllocFailed};
 
-/// Why an input is refused: the first cause in the order of the variants.
+/// Why an input is refused: the first cause in the order of the variants, and of one variant the
+/// one with the least `which`.
 ///
 /// In `which`, 1 and 2 are the equations, and 3 to 6 are X, Y, U and V.
 #[derive(Clone, Copy, PartialEq, Eq, Debug)]
 pub enum TextFault {
-    /// The bytes are no text; `at` is the length of their longest front with which some text begins.
+    /// The bytes are no text of the mode; `at` is the length of their longest prefix with which
+    /// some text begins.
     Syntax { at: usize },
-    /// The number behind `p` is not in the table of primes.
+    /// The number after `p` is not in the table of primes.
     NotPrime,
     /// An equation has no nonzero term with y.
     NoY { which: u8 },
@@ -19,6 +21,7 @@ pub enum TextFault {
     ZeroDenominator { which: u8 },
     /// A degree is above its limit.
     Degree { which: u8 },
+    /// Out of memory.
     NoMemory,
 }
 

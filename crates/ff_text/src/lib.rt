@@ -1,10 +1,11 @@
-//! The input's grammar and reader.
+//! The texts of the program: the grammar of its input with the reader, and the printed answers.
 #![tactic(auto)]
 
 mod fault;
-mod form;
 mod job;
+mod layout;
 mod limits;
+mod lists;
 mod planes;
 mod print;
 mod reader;
@@ -13,6 +14,8 @@ mod sums;
 mod symbol;
 
 pub use fault::TextFault;
-pub use form::Mode;
-pub use job::{Job, RawElem, read_input};
-pub use print::{print_elem, print_fault, print_list, print_poly};
+pub use job::{Job, MAX_BYTES, RawElem, read_input};
+pub use layout::Mode;
+pub use limits::{MAX_ELEM_X_DEGREE, MAX_ELEM_Y_DEGREE};
+pub use lists::{print_elem, print_list, print_order};
+pub use print::{print_fault, print_poly};

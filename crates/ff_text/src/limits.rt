@@ -1,11 +1,31 @@
-// Tests on the terms of sums.
-ghost use Rattle.std.specs.Prelude.{◌≡◌, ◌+◌, ◌*◌, ◌-◌, ◌<◌, ◌≤◌, false, position, length, Some, None, MatchResult};
+// Limits of degrees, and tests on the terms of sums.
+ghost use Rattle.std.specs.Prelude.{◌≡◌, ◌+◌, ◌*◌, ◌-◌, ◌<◌, ◌≤◌, false, position, length};
+ghost use Rattle.std.specs.Prelude.{Some, None, MatchResult};
 ghost use Rattle.std.specs.List.{All, list_any};
-ghost use Rattle.ff_text.specs.Limits.{has_y, passes, top, raises, monic_passes, lacks_y, is_over_zero, equation_passes, element_passes, first_fault};
+ghost use Rattle.ff_text.specs.Limits.{has_y, exceeds, top, raises, monic_exceeds};
+ghost use Rattle.ff_text.specs.Limits.{lacks_y, is_over_zero, equation_exceeds, element_exceeds};
+ghost use Rattle.ff_text.specs.Limits.{first_fault};
 
 use crate::fault::TextFault;
 use crate::reader::Monomial;
 use crate::sums::Ratio;
+use ff_poly::{MAX_MONIC_DEGREE, MAX_X_DEGREE, MAX_Y_DEGREE};
+
+/// The greatest degree in x of the numerator and of the denominator of an element of the input.
+pub const MAX_ELEM_X_DEGREE: usize = 512;
+
+/// The greatest degree in y of the numerator of an element of the input.
+pub const MAX_ELEM_Y_DEGREE: usize = 64;
+
+/// The numbers of coefficients in x and in y of an equation within its limits.
+pub const EQUATION_WIDTH: usize = MAX_X_DEGREE + 1;
+
+pub const EQUATION_HEIGHT: u64 = MAX_Y_DEGREE as u64 + 1;
+
+/// The numbers of coefficients in x and in y of an element within its limits.
+pub const ELEM_WIDTH: usize = MAX_ELEM_X_DEGREE + 1;
+
+pub const ELEM_HEIGHT: u64 = MAX_ELEM_Y_DEGREE as u64 + 1;
 
 /// Whether y occurs.
 fn has_y(terms: &[Monomial]) -> bool
@@ -14,9 +34,9 @@ fn has_y(terms: &[Monomial]) -> bool
     terms.iter().any(|m| m.y > 0)
 }
 
-/// Whether the power of x is above the first number, or that of y above the second.
-fn passes(terms: &[Monomial], x: u64, y: u64) -> bool
-    ensures { result ≡ passes x y terms.now }
+/// Whether some power of x is above the first number, or some power of y above the second.
+fn exceeds(terms: &[Monomial], x: u64, y: u64) -> bool
+    ensures { result ≡ exceeds x y terms.now }
 {
     terms.iter().any(|m| m.x > x || m.y > y)
 }
@@ -36,9 +56,9 @@ fn top(first: Monomial, rest: &[Monomial]) -> Monomial
 
 /// Whether the monic form has a power of x above the limit, where the leading term is this one.
 fn raises(terms: &[Monomial], leading: Monomial, limit: u64) -> bool
-    requires x { leading.x ≤ 12 }
-    requires y { leading.y ≤ 6 }
-    requires each { All (λ m. (m.x ≤ 12) × (m.y ≤ 6)) terms.now }
+    requires x { leading.x ≤ MAX_X_DEGREE }
+    requires y { leading.y ≤ MAX_Y_DEGREE }
+    requires each { All (λ m. (m.x ≤ MAX_X_DEGREE) × (m.y ≤ MAX_Y_DEGREE)) terms.now }
     ensures { result ≡ list_any (raises limit leading) terms.now }
 {
     for m in terms {
@@ -49,11 +69,12 @@ fn raises(terms: &[Monomial], leading: Monomial, limit: u64) -> bool
     false
 }
 
-/// Whether the degree of the monic form is above the limit. The powers are within the limits of an equation.
-#[tactic(auto, unfolding(crate::specs::Limits::monic_passes))]
-fn monic_passes(terms: &[Monomial], limit: u64) -> bool
-    requires { passes 12 6 terms.now ≡ false }
-    ensures { result ≡ monic_passes limit terms.now }
+/// Whether the degree in x of the monic form is above the limit. The powers are within the limits
+/// of an equation.
+#[tactic(auto, unfolding(crate::specs::Limits::monic_exceeds))]
+fn monic_exceeds(terms: &[Monomial], limit: u64) -> bool
+    requires { exceeds MAX_X_DEGREE MAX_Y_DEGREE terms.now ≡ false }
+    ensures { result ≡ monic_exceeds limit terms.now }
 {
     match terms {
         [] => false,
@@ -62,10 +83,14 @@ fn monic_passes(terms: &[Monomial], limit: u64) -> bool
 }
 
 /// Whether an equation is above its limits.
-fn equation_passes(equation: &Ratio) -> bool
-    ensures { result ≡ equation_passes equation.now }
+fn equation_exceeds(equation: &Ratio) -> bool
+    ensures { result ≡ equation_exceeds equation.now }
 {
-    passes(&equation.numerator, 12, 6) || monic_passes(&equation.numerator, 24)
+    exceeds(
+        &equation.numerator,
+        MAX_X_DEGREE as u64,
+        MAX_Y_DEGREE as u64,
+    ) || monic_exceeds(&equation.numerator, MAX_MONIC_DEGREE as u64)
 }
 
 /// Whether a denominator is 0.
@@ -76,10 +101,18 @@ fn is_over_zero(element: &Ratio) -> bool
 }
 
 /// Whether an element is above its limits.
-fn element_passes(element: &Ratio) -> bool
-    ensures { result ≡ element_passes element.now }
+fn element_exceeds(element: &Ratio) -> bool
+    ensures { result ≡ element_exceeds element.now }
 {
-    passes(&element.numerator, 512, 64) || passes(&element.denominator, 512, 64)
+    exceeds(
+        &element.numerator,
+        MAX_ELEM_X_DEGREE as u64,
+        MAX_ELEM_Y_DEGREE as u64,
+    ) || exceeds(
+        &element.denominator,
+        MAX_ELEM_X_DEGREE as u64,
+        MAX_ELEM_Y_DEGREE as u64,
+    )
 }
 
 /// The first equation without y.
@@ -98,23 +131,24 @@ fn over_zero(elements: &[Ratio]) -> Option<usize>
 
 /// The first equation above its limits.
 fn equation_above(equations: &[Ratio]) -> Option<usize>
-    ensures { result ≡ position equation_passes equations.now }
+    ensures { result ≡ position equation_exceeds equations.now }
 {
-    equations.iter().position(|e| equation_passes(e))
+    equations.iter().position(|e| equation_exceeds(e))
 }
 
 /// The first element above its limits.
 fn element_above(elements: &[Ratio]) -> Option<usize>
-    ensures { result ≡ position element_passes elements.now }
+    ensures { result ≡ position element_exceeds elements.now }
 {
-    elements.iter().position(|e| element_passes(e))
+    elements.iter().position(|e| element_exceeds(e))
 }
 
-/// Finds the first fault of the lines of a text, of which the first two are equations.
+/// Checks the lines of a text, of which the first two are equations, and answers the first fault.
 #[tactic(auto, unfolding(crate::specs::Limits::first_fault))]
-pub fn refuse(lines: &[Ratio]) -> Result<(), TextFault>
+pub fn check_lines(lines: &[Ratio]) -> Result<(), TextFault>
     requires { length lines.now ≤ 6 }
-    ensures { MatchResult result (λ _. first_fault lines.now ≡ None) (λ e. first_fault lines.now ≡ Some e) }
+    ensures { let found = first_fault lines.now in
+        MatchResult result (λ _. found ≡ None) (λ e. found ≡ Some e) }
 {
     let (equations, elements) = lines.split_at(lines.len().min(2));
     if let Some(i) = without_y(equations) {

@@ -1,11 +1,12 @@
 // Polynomials from the terms of sums.
-ghost use Rattle.std.specs.Prelude.{◌≡◌, ◌+◌, ◌<◌, ◌≤◌, ◌^◌, ℕ, List, [], length, IfOk, replicate, false, slice_index, slice_index_or};
+ghost use Rattle.std.specs.Prelude.{◌≡◌, ◌+◌, ◌<◌, ◌≤◌, ◌^◌, ℕ, List, [], length, IfOk};
+ghost use Rattle.std.specs.Prelude.{replicate, false, slice_index, slice_index_or};
 ghost use Rattle.std.specs.List.{All};
 ghost use Rattle.ff_prime.specs.Number.{number_of};
 ghost use Rattle.ff_theory.specs.PrimeTable.{prime_elements};
-ghost use Rattle.ff_poly.specs.Words.{IsPoly, IsPlane};
+ghost use Rattle.ff_theory.specs.Values.{IsPoly, IsPlane};
 ghost use Rattle.ff_text.specs.declared.reader.Monomial.{Monomial};
-ghost use Rattle.ff_text.specs.Limits.{passes};
+ghost use Rattle.ff_text.specs.Limits.{exceeds};
 ghost use Rattle.ff_text.specs.Sums.{total, IsCollected, IsSum, IsSumInX, write_all};
 
 use crate::reader::Monomial;
@@ -42,17 +43,13 @@ fn coefficients(
 }
 
 /// The row of the power y^j of the sum of the terms: a polynomial in x.
-fn row(
-    alloc: Global,
-    k: &Prime,
-    terms: &[Monomial],
-    j: u64,
-    width: usize,
-) -> Result<Poly<u32>, NoMemory>
+fn row(alloc: Global, k: &Prime, terms: &[Monomial], j: u64, width: usize) -> Result<Poly, NoMemory>
     requires each { All (λ m. m.coefficient < number_of k.now) terms.now }
     requires width { All (λ m. m.x < width) terms.now }
-    ensures poly { IfOk result (λ r. IsPoly (prime_elements (number_of k.now)) r) }
-    ensures same { IfOk result (λ r. (i : ℕ) → slice_index r i ≡ slice_index (write_all j (replicate width 0) terms.now) i) }
+    ensures poly { let F = prime_elements (number_of k.now) in
+        IfOk result (IsPoly F) }
+    ensures same { let row = write_all j (replicate width 0) terms.now in
+        IfOk result (λ r. (i : ℕ) → slice_index r i ≡ slice_index row i) }
 {
     let row = coefficients(alloc, terms, j, width)?;
     Poly::from_coeffs(alloc, k, &row)
@@ -65,11 +62,12 @@ pub fn plane(
     terms: &[Monomial],
     width: usize,
     height: u64,
-) -> Result<Plane<u32>, NoMemory>
+) -> Result<Plane, NoMemory>
     requires each { All (λ m. m.coefficient < number_of k.now) terms.now }
     requires width { All (λ m. m.x < width) terms.now }
     requires height { All (λ m. m.y < height) terms.now }
-    ensures { IfOk result (λ r. (ms : List Monomial) → IsCollected (number_of k.now) ms terms.now → IsSum (number_of k.now) ms r) }
+    ensures { let p = number_of k.now in
+        IfOk result (λ r. (ms : List Monomial) → IsCollected p ms terms.now → IsSum p ms r) }
 {
     let mut rows = Vec::new(alloc);
     for j in 0..height {
@@ -84,10 +82,11 @@ pub fn polynomial(
     k: &Prime,
     terms: &[Monomial],
     width: usize,
-) -> Result<Poly<u32>, NoMemory>
+) -> Result<Poly, NoMemory>
     requires each { All (λ m. m.coefficient < number_of k.now) terms.now }
     requires width { All (λ m. m.x < width) terms.now }
-    ensures { IfOk result (λ r. (ms : List Monomial) → IsCollected (number_of k.now) ms terms.now → IsSumInX (number_of k.now) ms r) }
+    ensures { let p = number_of k.now in
+        IfOk result (λ r. (ms : List Monomial) → IsCollected p ms terms.now → IsSumInX p ms r) }
 {
     row(alloc, k, terms, 0, width)
 }

@@ -1,15 +1,15 @@
-// The printed texts.
+// The printed texts of faults and of polynomials.
 ghost use Rattle.std.specs.Prelude.{◌≡◌, ◌≤◌, [], ◌∷◌, ◌++◌, ◌<◌, map, codes, IfOk};
 ghost use Rattle.std.specs.List.{flat_map};
 ghost use Rattle.std.specs.String.{string_bytes};
-ghost use Rattle.ff_text.specs.Printed.{letter_of, degree_of, fault_text, HasText, joined, coefficient_factor, power_text, power_factor, term_text, row_terms, rows_terms, sum_text, poly_text, is_one, elem_text, entry_text, list_name, list_text, HasList};
+ghost use Rattle.ff_text.specs.Printed.{letter_of, degree_of, fault_text, HasText};
+ghost use Rattle.ff_text.specs.Printed.{join, coefficient_factor, power_text, power_factor};
+ghost use Rattle.ff_text.specs.Printed.{term_text};
+ghost use Rattle.ff_text.specs.Printed.{row_terms, rows_terms, sum_text, poly_text, is_one};
 
 use crate::fault::TextFault;
-use crate::form::Mode;
 use crate::reader::Monomial;
 use ff_alg::NoMemory;
-use ff_data::{Entry, IsoList};
-use ff_elem::Elem;
 use ff_poly::{Plane, Poly};
 use std::alloc::Global;
 use std::slice;
@@ -41,9 +41,10 @@ fn name(which: u8) -> &'static str
     }
 }
 
-/// The line that tells of a fault.
+/// The line for a fault, which is not `NoMemory`.
 ///
 /// `which` is 1 or 2 in `NoY`, 3 to 6 in `ZeroDenominator` and 1 to 6 in `Degree`.
+/// The only error is out of memory.
 pub fn print_fault(alloc: Global, fault: &TextFault) -> Result<Vec<u8>, NoMemory>
     requires { HasText fault.now }
     ensures { IfOk result (λ text. text.items ≡ fault_text fault.now) }
@@ -66,8 +67,9 @@ pub fn print_fault(alloc: Global, fault: &TextFault) -> Result<Vec<u8>, NoMemory
 }
 
 /// The texts with the separator between each two.
-fn joined(alloc: Global, separator: &str, texts: &[String]) -> Result<String, NoMemory>
-    ensures { IfOk result (λ r. string_bytes r ≡ joined separator.now (map string_bytes texts.now)) }
+fn join(alloc: Global, separator: &str, texts: &[String]) -> Result<String, NoMemory>
+    ensures { let all = map string_bytes texts.now in
+        IfOk result (λ r. string_bytes r ≡ join separator.now all) }
 {
     let mut joined = String::new(alloc);
     let [first, rest @ ..] = texts else {
@@ -93,9 +95,11 @@ fn power(alloc: Global, letter: &str, n: u64) -> Result<String, NoMemory>
     Ok(text)
 }
 
-/// The factors of a term: its coefficient, where that is not 1 or no power stands, and its powers of x and y.
+/// The factors of a term: its coefficient, where that is not 1 or there is no power, and its powers
+/// of x and y.
 fn factors(alloc: Global, m: Monomial) -> Result<Vec<String>, NoMemory>
-    ensures { IfOk result (λ r. map string_bytes r.items ≡ coefficient_factor m ++ power_factor (codes "x") m.x ++ power_factor (codes "y") m.y) }
+    ensures { let powers = power_factor (codes "x") m.x ++ power_factor (codes "y") m.y in
+        IfOk result (λ r. map string_bytes r.items ≡ coefficient_factor m ++ powers) }
 {
     let mut factors = Vec::new(alloc);
     if m.coefficient != 1 || (m.x == 0 && m.y == 0) {
@@ -115,7 +119,7 @@ fn factors(alloc: Global, m: Monomial) -> Result<Vec<String>, NoMemory>
 fn term(alloc: Global, m: Monomial) -> Result<String, NoMemory>
     ensures { IfOk result (λ r. string_bytes r ≡ term_text m) }
 {
-    joined(alloc, "*", &factors(alloc, m)?)
+    join(alloc, "*", &factors(alloc, m)?)
 }
 
 /// The texts of terms.
@@ -131,7 +135,8 @@ fn terms(alloc: Global, monomials: &[Monomial]) -> Result<Vec<String>, NoMemory>
 
 /// Appends the terms of the row of y^j that are not 0, by falling power of x.
 fn push_row(terms: &mut Vec<Monomial>, row: &[u32], j: u64) -> Result<(), NoMemory>
-    ensures { IfOk result (λ _. terms.new.items ≡ terms.old.items ++ row_terms j 0 row.now) }
+    ensures { let old = terms.old.items in
+        IfOk result (λ _. terms.new.items ≡ old ++ row_terms j 0 row.now) }
 {
     for i in (0..row.len()).rev() {
         if row[i] > 0 {
@@ -145,8 +150,9 @@ fn push_row(terms: &mut Vec<Monomial>, row: &[u32], j: u64) -> Result<(), NoMemo
     Ok(())
 }
 
-/// The terms of a polynomial that are not 0, by falling power of y and, for equal powers of y, of x.
-fn monomials(alloc: Global, rows: &[Poly<u32>]) -> Result<Vec<Monomial>, NoMemory>
+/// The terms of a polynomial that are not 0, by falling power of y and, for equal powers of y, by
+/// falling power of x.
+fn monomials(alloc: Global, rows: &[Poly]) -> Result<Vec<Monomial>, NoMemory>
     ensures { IfOk result (λ r. r.items ≡ rows_terms 0 rows.now) }
 {
     let mut terms = Vec::new(alloc);
@@ -157,104 +163,37 @@ fn monomials(alloc: Global, rows: &[Poly<u32>]) -> Result<Vec<Monomial>, NoMemor
 }
 
 /// The text of a polynomial by its rows.
-fn polynomial(alloc: Global, rows: &[Poly<u32>]) -> Result<String, NoMemory>
+pub fn polynomial(alloc: Global, rows: &[Poly]) -> Result<String, NoMemory>
     ensures { IfOk result (λ r. string_bytes r ≡ poly_text rows.now) }
 {
     let monomials = monomials(alloc, rows)?;
     if monomials.is_empty() {
         return Ok(format!(in alloc; "0")?);
     }
-    joined(alloc, "+", &terms(alloc, &monomials)?)
+    join(alloc, "+", &terms(alloc, &monomials)?)
 }
 
 /// The text of a polynomial in x and y.
 ///
-/// Its terms that are not 0 stand by falling power of y and, for equal powers of y, by falling power of x, with `+` between
-/// them: `4*x^5*y^2+y+1`. The coefficient 1 is left out before a power, and so is the exponent 1. The text of 0 is `0`.
-/// The only error is want of memory.
-pub fn print_poly(alloc: Global, f: &Plane<u32>) -> Result<Vec<u8>, NoMemory>
+/// Its terms that are not 0 are sorted by falling power of y and, for equal powers of y, by falling
+/// power of x, with `+` between them: `4*x^5*y^2+y+1`. The coefficient 1 is left out before a
+/// power, and so is the exponent 1. The text of 0 is `0`. The only error is out of memory.
+pub fn print_poly(alloc: Global, f: &Plane) -> Result<Vec<u8>, NoMemory>
     ensures { IfOk result (λ text. text.items ≡ poly_text f.now) }
 {
     Ok(polynomial(alloc, f.rows())?.into_bytes())
 }
 
-/// Whether it is the polynomial 1.
-fn is_one(p: &Poly<u32>) -> bool
+/// Whether a polynomial in x is 1.
+pub fn is_one(p: &Poly) -> bool
     ensures { result ≡ is_one p.now }
 {
     matches!(p.coeffs(), [1])
 }
 
-/// The text of the polynomial in x.
-fn denominator(alloc: Global, p: &Poly<u32>) -> Result<String, NoMemory>
+/// The text of a polynomial in x.
+pub fn denominator(alloc: Global, p: &Poly) -> Result<String, NoMemory>
     ensures { IfOk result (λ r. string_bytes r ≡ poly_text (p.now ∷ [])) }
 {
     polynomial(alloc, slice::from_ref(p))
-}
-
-/// The text of an element.
-#[tactic(auto, unfolding(crate::specs::Printed::elem_text))]
-fn element(alloc: Global, e: &Elem<u32>) -> Result<String, NoMemory>
-    ensures { IfOk result (λ r. string_bytes r ≡ elem_text e.now) }
-{
-    let num = polynomial(alloc, e.num.rows())?;
-    if is_one(&e.den) {
-        return Ok(num);
-    }
-    let den = denominator(alloc, &e.den)?;
-    Ok(format!(in alloc; "({num})/({den})")?)
-}
-
-/// The line of an entry.
-fn entry(alloc: Global, e: &Entry<u32>) -> Result<String, NoMemory>
-    ensures { IfOk result (λ r. string_bytes r ≡ entry_text e.now) }
-{
-    let x = element(alloc, &e.pair.x)?;
-    let y = element(alloc, &e.pair.y)?;
-    let u = element(alloc, &e.back.x)?;
-    let v = element(alloc, &e.back.y)?;
-    Ok(format!(in alloc; "X={x}; Y={y}; U={u}; V={v}\n")?)
-}
-
-/// The lines of entries.
-fn lines(alloc: Global, entries: &[Entry<u32>]) -> Result<String, NoMemory>
-    ensures { IfOk result (λ r. string_bytes r ≡ flat_map entry_text entries.now) }
-{
-    let mut lines = String::new(alloc);
-    for e in entries {
-        lines.push_str(entry(alloc, e)?.as_str())?;
-    }
-    Ok(lines)
-}
-
-/// What the entries of a list are.
-fn list_name(mode: Mode) -> &'static str
-    requires { HasList mode }
-    ensures { result.now ≡ list_name mode }
-{
-    match mode {
-        Mode::Iso => "isomorphisms",
-        _ => "automorphisms",
-    }
-}
-
-/// The text of an element: that of its numerator, and where the denominator is not 1, `(` numerator `)/(` denominator `)`.
-/// The only error is want of memory.
-pub fn print_elem(alloc: Global, e: &Elem<u32>) -> Result<Vec<u8>, NoMemory>
-    ensures { IfOk result (λ text. text.items ≡ elem_text e.now) }
-{
-    Ok(element(alloc, e)?.into_bytes())
-}
-
-/// The text of an isomorphism list, or in the mode `Aut` of a list of automorphisms: a line with the number of its entries,
-/// and a line for each entry with its pair X, Y and the inverse pair U, V. The only error is want of memory.
-pub fn print_list(alloc: Global, mode: Mode, list: &IsoList<u32>) -> Result<Vec<u8>, NoMemory>
-    requires { HasList mode }
-    ensures { IfOk result (λ text. text.items ≡ list_text mode list.now) }
-{
-    let name = list_name(mode);
-    let count = list.entries.items.len();
-    let lines = lines(alloc, &list.entries.items)?;
-    let text = format!(in alloc; "{name}: {count}\n{lines}")?;
-    Ok(text.into_bytes())
 }

@@ -1,15 +1,29 @@
 // Reading a text symbol by symbol.
-ghost use Rattle.std.specs.Prelude.{◌≡◌, ◌+◌, ◌*◌, ◌%◌, ◌<◌, ◌≤◌, ◌^◌, map, Some, IfOk, IfErr, MatchResult};
+ghost use Rattle.std.specs.Prelude.{◌≡◌, ◌+◌, ◌*◌, ◌%◌, ◌<◌, ◌≤◌, ◌^◌, map, Some, IfOk, IfErr};
+ghost use Rattle.std.specs.Prelude.{MatchResult};
 ghost use Rattle.ff_text.specs.declared.reader.Stop.TheVariants.{NoMemory};
 ghost use Rattle.ff_text.specs.declared.reader.Part.TheVariants.{Numerator, Denominator};
 ghost use Rattle.ff_text.specs.Symbols.{IsDigitShort};
-ghost use Rattle.ff_text.specs.Reading.{State, Follows, Ends, finish, initial, go, IsShort, IsShortAt, HasRoom, push_digit, first_digit, step, is_done, quotient, unit, modulus, reduced, factor_of, signed, all_terms, next_term, clear, apply, end_number, end_line, close, allows, open_line, line_end, text_start, between, number_start, in_number, factor_start, polynomial_start, element_start, after_factor, in_digits, after_variable, exponent_start, after_numerator, after_slash};
+ghost use Rattle.ff_text.specs.Reading.{Progress, Follows, Ends, finish, initial, go, IsShort};
+ghost use Rattle.ff_text.specs.Reading.{IsShortAt, HasRoom, number_bound, push_digit, first_digit};
+ghost use Rattle.ff_text.specs.Reading.{step, is_done};
+ghost use Rattle.ff_text.specs.Reading.{quotient, unit, modulus, reduced, factor_of, signed};
+ghost use Rattle.ff_text.specs.Reading.{all_terms, next_term, clear, apply, end_number, end_line};
+ghost use Rattle.ff_text.specs.Reading.{close, allows, open_line, step_line_end, step_text_start};
+ghost use Rattle.ff_text.specs.Reading.{step_between, step_number_start, step_in_number};
+ghost use Rattle.ff_text.specs.Reading.{step_factor_start, step_polynomial_start};
+ghost use Rattle.ff_text.specs.Reading.{step_element_start, step_after_factor, step_in_digits};
+ghost use Rattle.ff_text.specs.Reading.{step_after_variable, step_exponent};
+ghost use Rattle.ff_text.specs.Reading.{step_after_numerator, step_after_slash};
 
-use crate::form::{Line, Mode, lines};
+use crate::layout::{Line, Mode, lines_of};
 use crate::symbol::{Sign, Symbol, Variable};
 use std::alloc::{AllocError, AllocFailed, Global};
 use std::marker::Model;
 use std::mem;
+
+/// The greatest number of digits of a number in the input.
+pub const MAX_DIGITS: u32 = 9;
 
 /// A number times powers of x and y.
 #[derive(Clone, Copy)]
@@ -41,16 +55,16 @@ pub enum Role {
     Exponent(Variable),
 }
 
-/// The front of a number: its value and how many digits it has.
+/// The digits of a number so far: their value and how many there are.
 #[derive(Clone, Copy)]
 pub struct Numeral {
     pub value: u32,
     pub digits: u32,
 }
 
-/// Where in a text the reader is.
+/// The state of the reader: what was read last, and what may follow.
 #[derive(Clone, Copy)]
-pub enum Place {
+pub enum State {
     /// Before the letter p.
     Start,
     /// Before the letter of a later line, or after the last line.
@@ -74,7 +88,8 @@ pub enum Place {
 #[derive(Debug, Drop)]
 pub enum Stop {
     /// No text goes on so.
-    Refused,
+    Unexpected,
+    /// Out of memory.
     NoMemory,
 }
 
@@ -109,13 +124,13 @@ impl Numeral {
         }
     }
 
-    /// The number with one digit more, where it has at most nine then.
+    /// The number with one digit more, where it has at most `MAX_DIGITS` then.
     fn longer(self, digit: u32) -> Option<Numeral>
         requires digit { digit < 10 }
         requires short { IsShort self }
         ensures { result ≡ push_digit self digit }
     {
-        if self.digits < 9 {
+        if self.digits < MAX_DIGITS {
             Some(Numeral {
                 value: 10 * self.value + digit,
                 digits: self.digits + 1,
@@ -135,11 +150,11 @@ impl Part {
     }
 }
 
-/// What has been read of a text, and where in it the reader is.
+/// What has been read of a text, and the state of the reader.
 #[derive(Drop)]
 pub struct Reader {
     lines: &'static [Line],
-    place: Place,
+    state: State,
     number: u32,
     sign: Sign,
     product: Monomial,
@@ -150,13 +165,13 @@ pub struct Reader {
 
 impl Model for Reader {
     ghost use Rattle.std.specs.Prelude.{map};
-    ghost use Rattle.ff_text.specs.Reading.{State, quotient};
+    ghost use Rattle.ff_text.specs.Reading.{Progress, quotient};
 
-    ghost Value = { State };
+    ghost Value = { Progress };
 
     ghost view = { λ r. record {
       lines = r.lines.now;
-      place = r.place;
+      state = r.state;
       number = r.number;
       sign = r.sign;
       product = r.product;
@@ -172,8 +187,8 @@ impl Reader {
         ensures { result ≡ initial mode }
     {
         Reader {
-            lines: lines(mode),
-            place: Place::Start,
+            lines: lines_of(mode),
+            state: State::Start,
             number: 0,
             sign: Sign::Plus,
             product: Monomial {
@@ -191,10 +206,10 @@ impl Reader {
     pub fn is_done(&self) -> bool
         ensures { result ≡ is_done self.now }
     {
-        matches!(self.place, Place::Between) && self.lines.is_empty()
+        matches!(self.state, State::Between) && self.lines.is_empty()
     }
 
-    /// The number of the first line, and the lines behind it.
+    /// The number of the first line, and the lines after it.
     pub fn into_parts(self) -> (u32, Vec<Fraction>)
         ensures number { result.0 ≡ self.number }
         ensures entries { map quotient result.1.items ≡ self.entries }
@@ -202,22 +217,22 @@ impl Reader {
         (self.number, self.entries)
     }
 
-    /// Goes on at this place.
-    fn go(&mut self, place: Place) -> Result<(), Stop>
-        ensures { Follows result (go place self.old) self.new }
+    /// Goes on in this state.
+    fn go(&mut self, state: State) -> Result<(), Stop>
+        ensures { Follows result (go state self.old) self.new }
     {
-        self.place = place;
+        self.state = state;
         Ok(())
     }
 
     /// After the last token of a line.
-    fn line_end(&mut self, symbol: Symbol) -> Result<(), Stop>
-        ensures { Follows result (line_end self.old symbol) self.new }
+    fn step_line_end(&mut self, symbol: Symbol) -> Result<(), Stop>
+        ensures { Follows result (step_line_end self.old symbol) self.new }
     {
         match symbol {
-            Symbol::Blank => self.go(Place::LineEnd),
-            Symbol::LineFeed => self.go(Place::Between),
-            _ => Err(Stop::Refused),
+            Symbol::Blank => self.go(State::LineEnd),
+            Symbol::LineFeed => self.go(State::Between),
+            _ => Err(Stop::Unexpected),
         }
     }
 
@@ -227,62 +242,62 @@ impl Reader {
     {
         match self.lines {
             [line, rest @ ..] if line.letter == letter => {
-                self.place = line.content.start();
+                self.state = line.content.start();
                 self.lines = rest;
                 Ok(())
             }
-            _ => Err(Stop::Refused),
+            _ => Err(Stop::Unexpected),
         }
     }
 
-    /// Before the letter of a line behind the first.
-    fn between(&mut self, symbol: Symbol) -> Result<(), Stop>
-        ensures { Follows result (between self.old symbol) self.new }
+    /// Before the letter of a line after the first.
+    fn step_between(&mut self, symbol: Symbol) -> Result<(), Stop>
+        ensures { Follows result (step_between self.old symbol) self.new }
     {
         match symbol {
-            Symbol::Blank | Symbol::LineFeed => self.go(Place::Between),
+            Symbol::Blank | Symbol::LineFeed => self.go(State::Between),
             Symbol::Letter(letter) => self.open_line(letter),
-            _ => Err(Stop::Refused),
+            _ => Err(Stop::Unexpected),
         }
     }
 
     /// Before the letter p.
-    fn text_start(&mut self, symbol: Symbol) -> Result<(), Stop>
-        ensures { Follows result (text_start self.old symbol) self.new }
+    fn step_text_start(&mut self, symbol: Symbol) -> Result<(), Stop>
+        ensures { Follows result (step_text_start self.old symbol) self.new }
     {
         match symbol {
-            Symbol::Blank | Symbol::LineFeed => self.go(Place::Start),
-            Symbol::Letter(b'p') => self.go(Place::NumberStart),
-            _ => Err(Stop::Refused),
+            Symbol::Blank | Symbol::LineFeed => self.go(State::Start),
+            Symbol::Letter(b'p') => self.go(State::NumberStart),
+            _ => Err(Stop::Unexpected),
         }
     }
 
     /// Before the number of the first line.
-    fn number_start(&mut self, symbol: Symbol) -> Result<(), Stop>
-        ensures { Follows result (number_start self.old symbol) self.new }
+    fn step_number_start(&mut self, symbol: Symbol) -> Result<(), Stop>
+        ensures { Follows result (step_number_start self.old symbol) self.new }
     {
         match symbol {
-            Symbol::Blank => self.go(Place::NumberStart),
-            Symbol::Digit(digit) => self.go(Place::InNumber(Numeral::first(digit))),
-            _ => Err(Stop::Refused),
+            Symbol::Blank => self.go(State::NumberStart),
+            Symbol::Digit(digit) => self.go(State::InNumber(Numeral::first(digit))),
+            _ => Err(Stop::Unexpected),
         }
     }
 
     /// In the number of the first line.
-    fn in_number(&mut self, n: Numeral, symbol: Symbol) -> Result<(), Stop>
+    fn step_in_number(&mut self, n: Numeral, symbol: Symbol) -> Result<(), Stop>
         requires digit { IsDigitShort symbol }
         requires short { IsShort n }
-        ensures { Follows result (in_number n self.old symbol) self.new }
+        ensures { Follows result (step_in_number n self.old symbol) self.new }
     {
         match symbol {
             Symbol::Digit(digit) => match n.longer(digit) {
-                Some(longer) => self.go(Place::InNumber(longer)),
-                None => Err(Stop::Refused),
+                Some(longer) => self.go(State::InNumber(longer)),
+                None => Err(Stop::Unexpected),
             },
             _ => {
                 self.number = n.value;
                 self.product = self.unit();
-                self.line_end(symbol)
+                self.step_line_end(symbol)
             }
         }
     }
@@ -307,50 +322,50 @@ impl Reader {
     }
 
     /// Before a factor.
-    fn factor_start(&mut self, part: Part, symbol: Symbol) -> Result<(), Stop>
-        ensures { Follows result (factor_start part self.old symbol) self.new }
+    fn step_factor_start(&mut self, part: Part, symbol: Symbol) -> Result<(), Stop>
+        ensures { Follows result (step_factor_start part self.old symbol) self.new }
     {
         match symbol {
-            Symbol::Blank => self.go(Place::FactorStart(part)),
+            Symbol::Blank => self.go(State::FactorStart(part)),
             Symbol::Digit(digit) => {
-                self.go(Place::InDigits(part, Role::Coefficient, Numeral::first(digit)))
+                self.go(State::InDigits(part, Role::Coefficient, Numeral::first(digit)))
             }
             Symbol::Variable(variable) if part.allows(variable) => {
-                self.go(Place::AfterVariable(part, variable))
+                self.go(State::AfterVariable(part, variable))
             }
-            _ => Err(Stop::Refused),
+            _ => Err(Stop::Unexpected),
         }
     }
 
     /// Before a polynomial.
-    fn polynomial_start(&mut self, part: Part, symbol: Symbol) -> Result<(), Stop>
-        ensures { Follows result (polynomial_start part self.old symbol) self.new }
+    fn step_polynomial_start(&mut self, part: Part, symbol: Symbol) -> Result<(), Stop>
+        ensures { Follows result (step_polynomial_start part self.old symbol) self.new }
     {
         match symbol {
-            Symbol::Blank => self.go(Place::PolynomialStart(part)),
+            Symbol::Blank => self.go(State::PolynomialStart(part)),
             Symbol::Sign(sign) => {
                 self.sign = sign;
-                self.go(Place::FactorStart(part))
+                self.go(State::FactorStart(part))
             }
-            _ => self.factor_start(part, symbol),
+            _ => self.step_factor_start(part, symbol),
         }
     }
 
     /// Before an element.
-    fn element_start(&mut self, symbol: Symbol) -> Result<(), Stop>
-        ensures { Follows result (element_start self.old symbol) self.new }
+    fn step_element_start(&mut self, symbol: Symbol) -> Result<(), Stop>
+        ensures { Follows result (step_element_start self.old symbol) self.new }
     {
         match symbol {
-            Symbol::Blank => self.go(Place::ElementStart),
-            Symbol::Open => self.go(Place::PolynomialStart(Part::Numerator)),
-            _ => self.polynomial_start(Part::Whole, symbol),
+            Symbol::Blank => self.go(State::ElementStart),
+            Symbol::Open => self.go(State::PolynomialStart(Part::Numerator)),
+            _ => self.step_polynomial_start(Part::Whole, symbol),
         }
     }
 
     /// Multiplies the term by a number, or by a power of a variable.
     fn apply(&mut self, role: Role, n: u32)
         requires room { HasRoom self.old }
-        requires small { n < 1000000000 }
+        requires small { n < number_bound }
         ensures { self.new ≡ apply role n self.old }
     {
         let m = self.modulus();
@@ -426,7 +441,7 @@ impl Reader {
             numerator,
             denominator: None,
         })?;
-        self.go(Place::Between)
+        self.go(State::Between)
     }
 
     /// Ends a numerator.
@@ -434,7 +449,7 @@ impl Reader {
         ensures { Follows result (close Numerator self.old) self.new }
     {
         self.numerator = self.take_terms(alloc)?;
-        self.go(Place::AfterNumerator)
+        self.go(State::AfterNumerator)
     }
 
     /// Ends a denominator.
@@ -447,30 +462,30 @@ impl Reader {
             numerator,
             denominator,
         })?;
-        self.go(Place::LineEnd)
+        self.go(State::LineEnd)
     }
 
-    /// Behind a factor.
-    fn after_factor(&mut self, alloc: Global, part: Part, symbol: Symbol) -> Result<(), Stop>
-        ensures { Follows result (after_factor part self.old symbol) self.new }
+    /// After a factor.
+    fn step_after_factor(&mut self, alloc: Global, part: Part, symbol: Symbol) -> Result<(), Stop>
+        ensures { Follows result (step_after_factor part self.old symbol) self.new }
     {
         match (symbol, part) {
-            (Symbol::Blank, _) => self.go(Place::AfterFactor(part)),
-            (Symbol::Times, _) => self.go(Place::FactorStart(part)),
+            (Symbol::Blank, _) => self.go(State::AfterFactor(part)),
+            (Symbol::Times, _) => self.go(State::FactorStart(part)),
             (Symbol::Sign(sign), _) => {
                 self.next_term()?;
                 self.sign = sign;
-                self.go(Place::FactorStart(part))
+                self.go(State::FactorStart(part))
             }
             (Symbol::LineFeed, Part::Whole) => self.end_line(alloc),
             (Symbol::Close, Part::Numerator) => self.end_numerator(alloc),
             (Symbol::Close, Part::Denominator) => self.end_denominator(alloc),
-            _ => Err(Stop::Refused),
+            _ => Err(Stop::Unexpected),
         }
     }
 
     /// In a number of a polynomial.
-    fn in_digits(
+    fn step_in_digits(
         &mut self,
         alloc: Global,
         part: Part,
@@ -481,22 +496,22 @@ impl Reader {
         requires digit { IsDigitShort symbol }
         requires short { IsShort n }
         requires room { HasRoom self.old }
-        ensures { Follows result (in_digits part role n self.old symbol) self.new }
+        ensures { Follows result (step_in_digits part role n self.old symbol) self.new }
     {
         match symbol {
             Symbol::Digit(digit) => match n.longer(digit) {
-                Some(longer) => self.go(Place::InDigits(part, role, longer)),
-                None => Err(Stop::Refused),
+                Some(longer) => self.go(State::InDigits(part, role, longer)),
+                None => Err(Stop::Unexpected),
             },
             _ => {
                 self.apply(role, n.value);
-                self.after_factor(alloc, part, symbol)
+                self.step_after_factor(alloc, part, symbol)
             }
         }
     }
 
-    /// Behind a variable.
-    fn after_variable(
+    /// After a variable.
+    fn step_after_variable(
         &mut self,
         alloc: Global,
         part: Part,
@@ -504,50 +519,50 @@ impl Reader {
         symbol: Symbol,
     ) -> Result<(), Stop>
         requires { HasRoom self.old }
-        ensures { Follows result (after_variable part variable self.old symbol) self.new }
+        ensures { Follows result (step_after_variable part variable self.old symbol) self.new }
     {
         match symbol {
-            Symbol::Blank => self.go(Place::AfterVariable(part, variable)),
-            Symbol::Power => self.go(Place::ExponentStart(part, variable)),
+            Symbol::Blank => self.go(State::AfterVariable(part, variable)),
+            Symbol::Power => self.go(State::ExponentStart(part, variable)),
             _ => {
                 self.apply(Role::Exponent(variable), 1);
-                self.after_factor(alloc, part, symbol)
+                self.step_after_factor(alloc, part, symbol)
             }
         }
     }
 
-    /// Behind a power sign.
-    fn exponent_start(&mut self, part: Part, variable: Variable, symbol: Symbol) -> Result<(), Stop>
-        ensures { Follows result (exponent_start part variable self.old symbol) self.new }
+    /// After a power sign.
+    fn step_exponent(&mut self, part: Part, variable: Variable, symbol: Symbol) -> Result<(), Stop>
+        ensures { Follows result (step_exponent part variable self.old symbol) self.new }
     {
         match symbol {
-            Symbol::Blank => self.go(Place::ExponentStart(part, variable)),
+            Symbol::Blank => self.go(State::ExponentStart(part, variable)),
             Symbol::Digit(digit) => {
-                self.go(Place::InDigits(part, Role::Exponent(variable), Numeral::first(digit)))
+                self.go(State::InDigits(part, Role::Exponent(variable), Numeral::first(digit)))
             }
-            _ => Err(Stop::Refused),
+            _ => Err(Stop::Unexpected),
         }
     }
 
-    /// Behind a numerator.
-    fn after_numerator(&mut self, symbol: Symbol) -> Result<(), Stop>
-        ensures { Follows result (after_numerator self.old symbol) self.new }
+    /// After a numerator.
+    fn step_after_numerator(&mut self, symbol: Symbol) -> Result<(), Stop>
+        ensures { Follows result (step_after_numerator self.old symbol) self.new }
     {
         match symbol {
-            Symbol::Blank => self.go(Place::AfterNumerator),
-            Symbol::Slash => self.go(Place::AfterSlash),
-            _ => Err(Stop::Refused),
+            Symbol::Blank => self.go(State::AfterNumerator),
+            Symbol::Slash => self.go(State::AfterSlash),
+            _ => Err(Stop::Unexpected),
         }
     }
 
-    /// Behind the slash of a quotient.
-    fn after_slash(&mut self, symbol: Symbol) -> Result<(), Stop>
-        ensures { Follows result (after_slash self.old symbol) self.new }
+    /// After the slash of a quotient.
+    fn step_after_slash(&mut self, symbol: Symbol) -> Result<(), Stop>
+        ensures { Follows result (step_after_slash self.old symbol) self.new }
     {
         match symbol {
-            Symbol::Blank => self.go(Place::AfterSlash),
-            Symbol::Open => self.go(Place::PolynomialStart(Part::Denominator)),
-            _ => Err(Stop::Refused),
+            Symbol::Blank => self.go(State::AfterSlash),
+            Symbol::Open => self.go(State::PolynomialStart(Part::Denominator)),
+            _ => Err(Stop::Unexpected),
         }
     }
 
@@ -555,33 +570,33 @@ impl Reader {
     #[tactic(auto, unfolding(crate::specs::Reading::step))]
     pub fn step(&mut self, alloc: Global, symbol: Symbol) -> Result<(), Stop>
         requires digit { IsDigitShort symbol }
-        requires short { IsShortAt self.old.place }
+        requires short { IsShortAt self.old.state }
         requires room { HasRoom self.old }
         ensures { Follows result (step self.old symbol) self.new }
     {
-        match self.place {
-            Place::Start => self.text_start(symbol),
-            Place::Between => self.between(symbol),
-            Place::NumberStart => self.number_start(symbol),
-            Place::InNumber(n) => self.in_number(n, symbol),
-            Place::LineEnd => self.line_end(symbol),
-            Place::ElementStart => self.element_start(symbol),
-            Place::PolynomialStart(part) => self.polynomial_start(part, symbol),
-            Place::FactorStart(part) => self.factor_start(part, symbol),
-            Place::InDigits(part, role, n) => self.in_digits(alloc, part, role, n, symbol),
-            Place::AfterVariable(part, variable) => {
-                self.after_variable(alloc, part, variable, symbol)
+        match self.state {
+            State::Start => self.step_text_start(symbol),
+            State::Between => self.step_between(symbol),
+            State::NumberStart => self.step_number_start(symbol),
+            State::InNumber(n) => self.step_in_number(n, symbol),
+            State::LineEnd => self.step_line_end(symbol),
+            State::ElementStart => self.step_element_start(symbol),
+            State::PolynomialStart(part) => self.step_polynomial_start(part, symbol),
+            State::FactorStart(part) => self.step_factor_start(part, symbol),
+            State::InDigits(part, role, n) => self.step_in_digits(alloc, part, role, n, symbol),
+            State::AfterVariable(part, variable) => {
+                self.step_after_variable(alloc, part, variable, symbol)
             }
-            Place::ExponentStart(part, variable) => self.exponent_start(part, variable, symbol),
-            Place::AfterFactor(part) => self.after_factor(alloc, part, symbol),
-            Place::AfterNumerator => self.after_numerator(symbol),
-            Place::AfterSlash => self.after_slash(symbol),
+            State::ExponentStart(part, variable) => self.step_exponent(part, variable, symbol),
+            State::AfterFactor(part) => self.step_after_factor(alloc, part, symbol),
+            State::AfterNumerator => self.step_after_numerator(symbol),
+            State::AfterSlash => self.step_after_slash(symbol),
         }
     }
 
     /// Ends the text, at which a line feed may be missing.
     pub fn finish(mut self, alloc: Global) -> Result<Reader, Stop>
-        requires short { IsShortAt self.place }
+        requires short { IsShortAt self.state }
         requires room { HasRoom self }
         ensures { Ends result (finish (Some self)) }
     {
@@ -589,7 +604,7 @@ impl Reader {
         if self.is_done() {
             Ok(self)
         } else {
-            Err(Stop::Refused)
+            Err(Stop::Unexpected)
         }
     }
 }

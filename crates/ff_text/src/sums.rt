@@ -16,7 +16,8 @@ fn coefficients(
     terms: &[Monomial],
 ) -> Result<BTreeMap<(u64, u64), u32>, AllocError>
     requires { 0 < p }
-    ensures { IfOk result (λ sums. (i j : ℕ) → unwrap_or (get powers_cmp sums (i, j)) 0 ≡ total p terms.now i j) }
+    ensures { IfOk result (λ sums.
+        (i j : ℕ) → unwrap_or (get powers_cmp sums (i, j)) 0 ≡ total p terms.now i j) }
 {
     let mut sums = BTreeMap::new(alloc);
     for m in terms {
@@ -28,8 +29,9 @@ fn coefficients(
     Ok(sums)
 }
 
-/// The terms of the sum with coefficients that are not 0 modulo p; a term may stand more than once.
-pub fn collected(alloc: Global, p: u32, terms: &[Monomial]) -> Result<Vec<Monomial>, AllocError>
+/// The terms of the sum with coefficients that are not 0 modulo p. A term may stand more than
+/// once, each time with its coefficient in the sum.
+pub fn collect(alloc: Global, p: u32, terms: &[Monomial]) -> Result<Vec<Monomial>, AllocError>
     requires { 0 < p }
     ensures { IfOk result (λ r. IsCollected p terms.now r.items) }
 {
@@ -61,10 +63,10 @@ impl Ratio {
         requires { 0 < p }
         ensures { IfOk result (IsRatio p line.now) }
     {
-        let numerator = collected(alloc, p, &line.numerator)?;
+        let numerator = collect(alloc, p, &line.numerator)?;
         let denominator = match &line.denominator {
-            Some(terms) => collected(alloc, p, terms)?,
-            None => collected(
+            Some(terms) => collect(alloc, p, terms)?,
+            None => collect(
                 alloc,
                 p,
                 &[Monomial {

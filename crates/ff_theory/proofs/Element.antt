@@ -1,245 +1,334 @@
--- The algebra E(f) of any plane f, its elements as a denominator and numerators in lowest terms, and what the code of each operation owes.
-use Rattle.std.proofs.Common.{◌≡◌, ℕ, zero, suc, pred, ◌<◌, Bool, true, false, cond, IsTrue, nat_lt, eqb, List, [], ◌∷◌, length, refl, sym, ◌∙◌, ap, ap₂, arith}
-use Rattle.std.proofs.lemmas.Bool.{eqb-true}
+-- The elements of E(f) as a denominator and numerators in lowest terms, and what the code of each
+-- operation owes.
+use Rattle.std.proofs.Common.{◌≡◌, ℕ, suc, ◌<◌, ◌≤◌, false, List, refl, sym, ◌∙◌, ap, ap₂, arith}
+use mathlib.Core.Path.{fun_ext}
 use Rattle.ff_theory.specs.Ring.{RingOps, IsCommRing, IsTested}
 use Rattle.ff_theory.specs.Lawful.{Domain, Field}
 use Rattle.ff_theory.specs.Poly.{coeff, Poly, poly, polynomials}
 use Rattle.ff_theory.specs.Division.{size}
-use Rattle.ff_theory.proofs.Solver.{◌⊕◌, ◌⊗◌, neg, nil, unit, ring1, ring2, ring3, ring4, ring6}
-use Rattle.ff_theory.proofs.Transfer.{IsMap}
-use Rattle.ff_theory.proofs.PolyMap.{compose, polynomial_domain}
-use mathlib.Core.Path.{fun_ext}
 use Rattle.ff_theory.specs.Eval.{eval, plane_at}
-use Rattle.ff_theory.proofs.Division.{const, x}
+use Rattle.ff_theory.specs.Planes.{planes, Plane, row_of, IsDivisorOver}
+use Rattle.ff_theory.specs.LowestTerms.{IsLowest}
+use Rattle.ff_theory.specs.Algebra.{proper, degree, algebra_of, value_of, inverse_of, over_of}
+use Rattle.ff_theory.specs.Algebra.{element, Form, constant, x_of, y_of}
+use Rattle.ff_theory.proofs.Solver.{◌⊕◌, ◌⊗◌, neg, nil, unit, ring1, ring2, ring3, ring4, ring6}
+use Rattle.ff_theory.specs.Map.{IsMap}
+use Rattle.ff_theory.proofs.PolyMap.{compose, polynomial_domain}
 use Rattle.ff_theory.proofs.Evaluate.{is_eval, const_map}
-use Rattle.ff_theory.proofs.Booleans.{differ}
-use Rattle.ff_theory.proofs.Quotient.{Class}
-use Rattle.ff_theory.proofs.Algebra.{rational, planes, Plane, fraction_of, row, fconst, algebra, algebra_class, algebra_laws, algebra_tests, plane_value, plane_value_map, equation_zero, DividesOver, zero_if_divides}
-use Rattle.ff_theory.specs.Divides.{Divides}
-use Rattle.ff_theory.proofs.LowestTerms.{Reduced, leading, den_nonzero}
-use Rattle.ff_theory.proofs.ReducedForms.{reduced_class, reduced_one, reduced_of}
-use Rattle.ff_theory.proofs.AlgebraParts.{reduced_clear, row_unit, row_cancel, from_parts_value}
+use Rattle.ff_theory.proofs.Proper.{proper_size, proper_is}
+use Rattle.ff_theory.proofs.Algebra.{zero_if_divides}
+use Rattle.ff_theory.proofs.AlgebraParts.{low_nonzero}
+use Rattle.ff_theory.proofs.Irreducible.{divides_over}
+use Rattle.ff_theory.proofs.Model.{model, model_value, model_inverse, model_over, model_element}
+use Rattle.ff_theory.proofs.Model.{ModelForm, model_parts, algebra_is_ring as model_laws}
+use Rattle.ff_theory.proofs.Model.{value_map as model_map, form as model_form}
+use Rattle.ff_theory.proofs.Model.{lowest_terms_unique as model_unique}
+use Rattle.ff_theory.proofs.Model.{lowest_nonzero as model_nonzero, over_clear as model_clear}
+use Rattle.ff_theory.proofs.NormalForms.{to_model, to_model_one, to_model_value, to_model_inverse}
+use Rattle.ff_theory.proofs.NormalForms.{to_model_map, algebra_ring, algebra_tested}
 
 module _ (K : Field) where
-  -- f, or the constant 1 in place of the plane 0
-  abbrev pub proper : Plane K → Plane K
-  proper f = cond (eqb (length f.coeffs) 0) (planes K).one f
-
-  abbrev pub degree : Plane K → ℕ
-  degree f = pred (size (polynomials K.ring) (proper f))
-
-  pub proper_size : (f : Plane K) → size (polynomials K.ring) (proper f) ≡ suc (degree f)
-  unfolding poly
-  proper_size f = go (eqb (length f.coeffs) 0) refl
-    where
-      up : (p : Plane K) → ¬ (size (polynomials K.ring) p ≡ 0) → size (polynomials K.ring) p ≡ suc (pred (size (polynomials K.ring) p))
-      up p h = pick (size (polynomials K.ring) p) refl
-        where
-          pick : (k : ℕ) → size (polynomials K.ring) p ≡ k → size (polynomials K.ring) p ≡ suc (pred (size (polynomials K.ring) p))
-          pick zero e = absurd (h e)
-          pick (suc k) e = e ∙ sym (ap (λ t. suc (pred t)) e)
-
-      go : (b : Bool) → eqb (length f.coeffs) 0 ≡ b → size (polynomials K.ring) (cond b (planes K).one f) ≡ suc (pred (size (polynomials K.ring) (cond b (planes K).one f)))
-      go true e = up (planes K).one (λ h. let one : size (polynomials K.ring) (planes K).one ≡ 1 = ap (λ b. length (cond b [] ((polynomials K.ring).one ∷ []))) (polynomial_domain K).proper in absurd (omega (arith, h, one)))
-      go false e = up f (λ h. differ _ (ap (λ t. eqb t 0) h) e)
-
-  pub proper_is : (f : Plane K) → ¬ (size (polynomials K.ring) f ≡ 0) → proper f ≡ f
-  proper_is f n = go (eqb (length f.coeffs) 0) refl
-    where
-      go : (b : Bool) → eqb (length f.coeffs) 0 ≡ b → cond b (planes K).one f ≡ f
-      go true e = absurd (n (eqb-true (length f.coeffs) 0 e))
-      go false e = refl
-
-  -- the algebra E(f); that of the plane 1 in place of the plane 0
-  unfoldable pub algebra_of : Plane K → RingOps
-  algebra_of f = algebra K (proper f) (degree f) (proper_size f)
-
-  -- a denominator and n numerators are in lowest terms
-  pub record IsLowest (n : ℕ) (den : Poly K.ring) (nums : List (Poly K.ring)) : Type 0 where
-    pub monic : IsTrue (K.same (leading K den) K.one)
-    pub count : IsTrue (eqb (length nums) n)
-    pub lowest : (d : Poly K.ring) → Divides (polynomials K.ring) d den → ((i : ℕ) → i < n → Divides (polynomials K.ring) d (coeff (polynomials K.ring) nums i)) → IsTrue (nat_lt (size K.ring d) 2)
-
-  kept : (n : ℕ) (den : Poly K.ring) (nums : List (Poly K.ring)) → IsLowest n den nums → Reduced K n
-  kept n den nums h = record { den = den; nums = nums; monic = h.monic; count = h.count; lowest = h.lowest }
-
   module _ (f : Plane K) where
     abbrev A : RingOps
-    A = algebra_of f
+    A = algebra_of K f
 
-    pub algebra_is_ring : IsCommRing (algebra_of f)
-    unfolding algebra_of
-    algebra_is_ring = algebra_laws K (proper f) (degree f) (proper_size f)
+    abbrev M : RingOps
+    M = model K f
 
-    -- the value of a plane at x and y
-    unfoldable pub value_of : Plane K → (algebra_of f).carrier
-    unfolding algebra_of
-    value_of N = plane_value K (proper f) (degree f) (proper_size f) N
+    ML : IsCommRing (model K f)
+    ML = model_laws K f
 
-    -- the inverse of a polynomial in x
-    unfoldable pub inverse_of : Poly K.ring → (algebra_of f).carrier
-    unfolding algebra_of
-    inverse_of d = algebra_class K (proper f) (degree f) (proper_size f) (fconst K ((rational K).inverse (fraction_of K d)))
+    pub algebra_is_ring : IsCommRing (algebra_of K f)
+    algebra_is_ring = algebra_ring K f
 
-    -- what a denominator and numerators stand for
-    unfoldable pub element : Poly K.ring → List (Poly K.ring) → (algebra_of f).carrier
-    element den nums = (algebra_of f).mul (inverse_of den) (value_of (poly (polynomials K.ring) nums))
+    pub algebra_is_tested : IsTested (algebra_of K f)
+    algebra_is_tested = algebra_tested K f
 
-    pub element_clear : (den : Poly K.ring) (nums : List (Poly K.ring)) → (polynomials K.ring).same den (polynomials K.ring).zero ≡ false
-        → (algebra_of f).mul (value_of (row K den)) (element den nums) ≡ value_of (poly (polynomials K.ring) nums)
-    unfolding element algebra_of value_of inverse_of
-    element_clear den nums nd = ring3 A algebra_is_ring (λ d i v. d ⊗ (i ⊗ v)) (λ d i v. (i ⊗ d) ⊗ v) refl (value_of (row K den)) (inverse_of den) (value_of (poly (polynomials K.ring) nums))
-        ∙ ap (λ t. A.mul t (value_of (poly (polynomials K.ring) nums))) (row_unit K (proper f) (degree f) (proper_size f) den nd) ∙ ring1 A algebra_is_ring (λ v. unit ⊗ v) (λ v. v) refl (value_of (poly (polynomials K.ring) nums))
-
-    -- a class as an element
-    unfoldable pub to_carrier : Class (rational K).ring (degree f) → (algebra_of f).carrier
-    unfolding algebra_of
-    to_carrier a = a
-
-    unfoldable pub from_carrier : (algebra_of f).carrier → Class (rational K).ring (degree f)
-    unfolding algebra_of
-    from_carrier a = a
-
-    element_kept : (t : Reduced K (degree f)) → element t.den t.nums ≡ to_carrier (reduced_class K (degree f) t)
-    unfolding algebra_of value_of to_carrier
-    element_kept t = row_cancel K (proper f) (degree f) (proper_size f) t.den (den_nonzero K (degree f) t) _ _ (element_clear t.den t.nums (den_nonzero K (degree f) t) ∙ sym (reduced_clear K (proper f) (degree f) (proper_size f) t))
-
-    -- one form for each element
-    pub one_form : (d e : Poly K.ring) (M N : List (Poly K.ring)) → IsLowest (degree f) d M → IsLowest (degree f) e N → element d M ≡ element e N → (d ≡ e) × (M ≡ N)
-    unfolding kept to_carrier
-    one_form d e M N h k same =
-        let p : kept (degree f) d M h ≡ kept (degree f) e N k = reduced_one K (degree f) (kept (degree f) d M h) (kept (degree f) e N k) (sym (element_kept (kept (degree f) d M h)) ∙ same ∙ element_kept (kept (degree f) e N k)) in
-        (ap (λ (t : Reduced K (degree f)). t.den) p, ap (λ (t : Reduced K (degree f)). t.nums) p)
-
-    pub record Form (a : (algebra_of f).carrier) : Type 0 where
-      pub den : Poly K.ring
-      pub nums : List (Poly K.ring)
-      pub lowest : IsLowest (degree f) den nums
-      pub stands : element den nums ≡ a
-
-    pub form : (a : (algebra_of f).carrier) → Form a
-    unfolding from_carrier to_carrier
-    form a = go (reduced_of K (degree f) (from_carrier a))
+    pub value_map : IsMap (planes K) (algebra_of K f) (value_of K f)
+    value_map = record {
+      on_zero = by_model (to_model_value K f (planes K).zero ∙ V.on_zero ∙ sym T.on_zero);
+      on_one = by_model (to_model_value K f (planes K).one ∙ V.on_one ∙ sym T.on_one);
+      on_add = λ a b. by_model (to_model_value K f _ ∙ V.on_add a b
+          ∙ sym (T.on_add _ _ ∙ ap₂ M.add (to_model_value K f a) (to_model_value K f b)));
+      on_neg = λ a. by_model (to_model_value K f _ ∙ V.on_neg a
+          ∙ sym (T.on_neg _ ∙ ap M.neg (to_model_value K f a)));
+      on_mul = λ a b. by_model (to_model_value K f _ ∙ V.on_mul a b
+          ∙ sym (T.on_mul _ _ ∙ ap₂ M.mul (to_model_value K f a) (to_model_value K f b)));
+    }
       where
-        go : (t : Reduced K (degree f)) × (reduced_class K (degree f) t ≡ from_carrier a) → Form a
-        go t = record { den = t.0.den; nums = t.0.nums; lowest = record { monic = t.0.monic; count = t.0.count; lowest = t.0.lowest }; stands = element_kept t.0 ∙ t.1 }
+        V : IsMap (planes K) M (model_value K f)
+        V = model_map K f
 
-    -- constants, x and y as elements
-    unfoldable pub constant : K.carrier → (algebra_of f).carrier
-    constant c = value_of (row K (const K.ring K.laws K.tests c))
+        T : IsMap A M (to_model K f)
+        T = to_model_map K f
 
-    unfoldable pub x_of : (algebra_of f).carrier
-    x_of = value_of (row K (x K.ring K.laws K.tests))
+        by_model : {a b : A.carrier} → to_model K f a ≡ to_model K f b → a ≡ b
+        by_model {a} {b} e = to_model_one K f a b e
 
-    unfoldable pub y_of : (algebra_of f).carrier
-    y_of = value_of (x (polynomials K.ring) (polynomial_domain K).laws (polynomial_domain K).tests)
+    -- a polynomial in x that is not 0 has an inverse
+    pub row_inverse : (d : Poly K.ring) → (polynomials K.ring).same d (polynomials K.ring).zero
+        ≡ false → (algebra_of K f).mul (inverse_of K f d) (value_of K f (row_of K.ring d))
+        ≡ (algebra_of K f).one
+    row_inverse d nd = to_model_one K f _ _ ((to_model_map K f).on_mul _ _
+        ∙ ap₂ M.mul (to_model_inverse K f d nd) (to_model_value K f (row_of K.ring d))
+        ∙ ML.mul_comm _ _ ∙ ap (M.mul (model_value K f (row_of K.ring d))) (sym (ML.mul_one _)
+        ∙ ap (M.mul (model_inverse K f d)) (sym (model_map K f).on_one))
+        ∙ model_clear K f (planes K).one d nd ∙ (model_map K f).on_one
+        ∙ sym (to_model_map K f).on_one)
+
+    -- the same elements in the model
+    element_model : (den : Poly K.ring) (nums : List (Poly K.ring))
+        → (polynomials K.ring).same den (polynomials K.ring).zero ≡ false
+        → to_model K f (element K f den nums) ≡ model_element K f den nums
+    unfolding element model_element
+    element_model den nums nd = (to_model_map K f).on_mul _ _
+        ∙ ap₂ M.mul (to_model_inverse K f den nd)
+        (to_model_value K f (poly (polynomials K.ring) nums))
+
+    over_model : (N : Plane K) (d : Poly K.ring)
+        → (polynomials K.ring).same d (polynomials K.ring).zero ≡ false
+        → to_model K f (over_of K f N d) ≡ model_over K f N d
+    over_model N d nd = (to_model_map K f).on_mul _ _
+        ∙ ap₂ M.mul (to_model_inverse K f d nd) (to_model_value K f N)
+
+    pub element_clear : (den : Poly K.ring) (nums : List (Poly K.ring))
+        → (polynomials K.ring).same den (polynomials K.ring).zero ≡ false
+        → (algebra_of K f).mul (value_of K f (row_of K.ring den)) (element K f den nums)
+        ≡ value_of K f (poly (polynomials K.ring) nums)
+    unfolding element
+    element_clear den nums nd = ring3 A algebra_is_ring (λ d i v. d ⊗ (i ⊗ v))
+        (λ d i v. (i ⊗ d) ⊗ v) refl (value_of K f (row_of K.ring den)) (inverse_of K f den)
+        (value_of K f (poly (polynomials K.ring) nums))
+        ∙ ap (λ t. A.mul t (value_of K f (poly (polynomials K.ring) nums))) (row_inverse den nd)
+        ∙ ring1 A algebra_is_ring (λ v. unit ⊗ v) (λ v. v) refl
+        (value_of K f (poly (polynomials K.ring) nums))
+
+    pub lowest_nonzero : (n : ℕ) (d : Poly K.ring) (N : List (Poly K.ring)) → IsLowest K n d N
+        → (polynomials K.ring).same d (polynomials K.ring).zero ≡ false
+    lowest_nonzero n d N h = model_nonzero K f n d N h
+
+    -- an element has one denominator and one list of numerators in lowest terms
+    pub lowest_terms_unique : (d e : Poly K.ring) (N O : List (Poly K.ring))
+        → IsLowest K (degree K f) d N → IsLowest K (degree K f) e O → element K f d N
+        ≡ element K f e O → (d ≡ e) × (N ≡ O)
+    lowest_terms_unique d e N O h k same = model_unique K f d e N O h k
+        (sym (element_model d N (lowest_nonzero (degree K f) d N h)) ∙ ap (to_model K f) same
+        ∙ element_model e O (lowest_nonzero (degree K f) e O k))
+
+    pub form : (a : (algebra_of K f).carrier) → Form K f a
+    form a = go (model_form K f (to_model K f a))
+      where
+        go : ModelForm K f (to_model K f a) → Form K f a
+        go g = record {
+          den = g.den;
+          nums = g.nums;
+          lowest = g.lowest;
+          stands = to_model_one K f _ _
+              (element_model g.den g.nums (lowest_nonzero (degree K f) g.den g.nums g.lowest)
+              ∙ g.stands);
+        }
 
     -- the value of a plane is its value at x and y
-    pub value_at_xy : (N : Plane K) → value_of N ≡ plane_at K.ring (algebra_of f) constant x_of y_of N
-    unfolding eval algebra_of value_of constant x_of y_of
-    value_at_xy N = is_eval (polynomials K.ring) A D.laws D.tests value_of VM N ∙ ap (λ (h : Poly K.ring → A.carrier). eval (polynomials K.ring) A h y_of N) (fun_ext (λ c. is_eval K.ring A K.laws K.tests (λ c. value_of (row K c)) (compose D.ring (planes K) A (row K) value_of (const_map D.ring D.laws D.tests) VM) c))
+    pub value_at_xy : (N : Plane K) → value_of K f N
+        ≡ plane_at K.ring (algebra_of K f) (constant K f) (x_of K f) (y_of K f) N
+    unfolding eval constant x_of y_of
+    value_at_xy N = is_eval (polynomials K.ring) A D.laws D.tests (value_of K f) VM N
+        ∙ ap (λ (h : Poly K.ring → A.carrier). eval (polynomials K.ring) A h (y_of K f) N)
+        (fun_ext (λ c. is_eval K.ring A K.laws K.tests (λ c. value_of K f (row_of K.ring c))
+        (compose D.ring (planes K) A (row_of K.ring) (value_of K f)
+        (const_map D.ring D.laws D.tests) VM) c))
       where
         D : Domain
         D = polynomial_domain K
 
-        VM : IsMap (planes K) A value_of
-        VM = plane_value_map K (proper f) (degree f) (proper_size f)
+        VM : IsMap (planes K) A (value_of K f)
+        VM = value_map
 
-    pub algebra_is_tested : IsTested (algebra_of f)
-    unfolding algebra_of
-    algebra_is_tested = algebra_tests K (proper f) (degree f) (proper_size f)
+    pub over_clear : (N : Plane K) (d : Poly K.ring)
+        → (polynomials K.ring).same d (polynomials K.ring).zero ≡ false
+        → (algebra_of K f).mul (value_of K f (row_of K.ring d)) (over_of K f N d) ≡ value_of K f N
+    over_clear N d nd = ring3 A algebra_is_ring (λ d i v. d ⊗ (i ⊗ v)) (λ d i v. (i ⊗ d) ⊗ v) refl
+        (value_of K f (row_of K.ring d)) (inverse_of K f d) (value_of K f N)
+        ∙ ap (λ t. A.mul t (value_of K f N)) (row_inverse d nd)
+        ∙ ring1 A algebra_is_ring (λ v. unit ⊗ v) (λ v. v) refl (value_of K f N)
 
-    -- a plane over a polynomial in x
-    abbrev pub over_of : Plane K → Poly K.ring → (algebra_of f).carrier
-    over_of N d = (algebra_of f).mul (inverse_of d) (value_of N)
-
-    pub value_map : IsMap (planes K) (algebra_of f) value_of
-    unfolding algebra_of value_of
-    value_map = plane_value_map K (proper f) (degree f) (proper_size f)
-
-    pub over_clear : (N : Plane K) (d : Poly K.ring) → (polynomials K.ring).same d (polynomials K.ring).zero ≡ false → (algebra_of f).mul (value_of (row K d)) (over_of N d) ≡ value_of N
-    unfolding algebra_of value_of inverse_of
-    over_clear N d nd = ring3 A algebra_is_ring (λ d i v. d ⊗ (i ⊗ v)) (λ d i v. (i ⊗ d) ⊗ v) refl (value_of (row K d)) (inverse_of d) (value_of N)
-        ∙ ap (λ t. A.mul t (value_of N)) (row_unit K (proper f) (degree f) (proper_size f) d nd) ∙ ring1 A algebra_is_ring (λ v. unit ⊗ v) (λ v. v) refl (value_of N)
-
-    pub cancel_row : (d : Poly K.ring) → (polynomials K.ring).same d (polynomials K.ring).zero ≡ false → (a b : (algebra_of f).carrier) → (algebra_of f).mul (value_of (row K d)) a ≡ (algebra_of f).mul (value_of (row K d)) b → a ≡ b
-    unfolding algebra_of value_of
-    cancel_row d nd a b e = row_cancel K (proper f) (degree f) (proper_size f) d nd a b e
+    pub cancel_row : (d : Poly K.ring) → (polynomials K.ring).same d (polynomials K.ring).zero
+        ≡ false → (a b : (algebra_of K f).carrier)
+        → (algebra_of K f).mul (value_of K f (row_of K.ring d)) a
+        ≡ (algebra_of K f).mul (value_of K f (row_of K.ring d)) b → a ≡ b
+    cancel_row d nd a b e = sym (back a) ∙ ap (A.mul (inverse_of K f d)) e ∙ back b
+      where
+        back : (a : A.carrier) → A.mul (inverse_of K f d) (A.mul (value_of K f (row_of K.ring d)) a)
+            ≡ a
+        back a = sym (algebra_is_ring.mul_assoc _ _ a) ∙ ap (λ t. A.mul t a) (row_inverse d nd)
+            ∙ ring1 A algebra_is_ring (λ a. unit ⊗ a) (λ a. a) refl a
 
     -- division by a polynomial in x is unique
-    pub over_one : (N : Plane K) (d : Poly K.ring) (a : (algebra_of f).carrier) → (polynomials K.ring).same d (polynomials K.ring).zero ≡ false → (algebra_of f).mul (value_of (row K d)) a ≡ value_of N → a ≡ over_of N d
-    unfolding algebra_of value_of
-    over_one N d a nd e = row_cancel K (proper f) (degree f) (proper_size f) d nd a (over_of N d) (e ∙ sym (over_clear N d nd))
+    pub over_one : (N : Plane K) (d : Poly K.ring) (a : (algebra_of K f).carrier)
+        → (polynomials K.ring).same d (polynomials K.ring).zero ≡ false
+        → (algebra_of K f).mul (value_of K f (row_of K.ring d)) a ≡ value_of K f N → a
+        ≡ over_of K f N d
+    over_one N d a nd e = cancel_row d nd a (over_of K f N d) (e ∙ sym (over_clear N d nd))
 
-    pub lowest_nonzero : (n : ℕ) (d : Poly K.ring) (M : List (Poly K.ring)) → IsLowest n d M → (polynomials K.ring).same d (polynomials K.ring).zero ≡ false
-    unfolding kept
-    lowest_nonzero n d M h = den_nonzero K n (kept n d M h)
-
-    row_product : (d e : Poly K.ring) → value_of (row K ((polynomials K.ring).mul d e)) ≡ A.mul (value_of (row K d)) (value_of (row K e))
-    row_product d e = ap value_of ((const_map (polynomials K.ring) (polynomial_domain K).laws (polynomial_domain K).tests).on_mul d e) ∙ value_map.on_mul (row K d) (row K e)
+    row_product : (d e : Poly K.ring) → value_of K f (row_of K.ring ((polynomials K.ring).mul d e))
+        ≡ A.mul (value_of K f (row_of K.ring d)) (value_of K f (row_of K.ring e))
+    row_product d e = ap (value_of K f)
+        ((const_map (polynomials K.ring) (polynomial_domain K).laws
+        (polynomial_domain K).tests).on_mul d e)
+        ∙ value_map.on_mul (row_of K.ring d) (row_of K.ring e)
 
     -- the product and the sum of two elements, as a plane over a polynomial in x
-    pub mul_exact : (d e : Poly K.ring) (M N : List (Poly K.ring)) → (polynomials K.ring).same d (polynomials K.ring).zero ≡ false → (polynomials K.ring).same e (polynomials K.ring).zero ≡ false
-        → (algebra_of f).mul (element d M) (element e N) ≡ over_of ((planes K).mul (poly (polynomials K.ring) M) (poly (polynomials K.ring) N)) ((polynomials K.ring).mul d e)
-    mul_exact d e M N nd ne = over_one _ _ _ ((polynomial_domain K).no_divisors d e nd ne) (ap (λ t. A.mul t (A.mul (element d M) (element e N))) (row_product d e)
-        ∙ ring4 A algebra_is_ring (λ d e s t. (d ⊗ e) ⊗ (s ⊗ t)) (λ d e s t. (d ⊗ s) ⊗ (e ⊗ t)) refl (value_of (row K d)) (value_of (row K e)) (element d M) (element e N)
-        ∙ ap₂ A.mul (element_clear d M nd) (element_clear e N ne) ∙ sym (value_map.on_mul (poly (polynomials K.ring) M) (poly (polynomials K.ring) N)))
+    pub mul_exact : (d e : Poly K.ring) (M N : List (Poly K.ring))
+        → (polynomials K.ring).same d (polynomials K.ring).zero ≡ false
+        → (polynomials K.ring).same e (polynomials K.ring).zero ≡ false
+        → (algebra_of K f).mul (element K f d M) (element K f e N)
+        ≡ over_of K f ((planes K).mul (poly (polynomials K.ring) M) (poly (polynomials K.ring) N))
+        ((polynomials K.ring).mul d e)
+    mul_exact d e M N nd ne = over_one _ _ _ ((polynomial_domain K).no_divisors d e nd ne)
+        (ap (λ t. A.mul t (A.mul (element K f d M) (element K f e N))) (row_product d e)
+        ∙ ring4 A algebra_is_ring (λ d e s t. (d ⊗ e) ⊗ (s ⊗ t)) (λ d e s t. (d ⊗ s) ⊗ (e ⊗ t)) refl
+        (value_of K f (row_of K.ring d)) (value_of K f (row_of K.ring e)) (element K f d M)
+        (element K f e N)
+        ∙ ap₂ A.mul (element_clear d M nd) (element_clear e N ne)
+        ∙ sym (value_map.on_mul (poly (polynomials K.ring) M) (poly (polynomials K.ring) N)))
 
-    pub add_exact : (d e : Poly K.ring) (M N : List (Poly K.ring)) → (polynomials K.ring).same d (polynomials K.ring).zero ≡ false → (polynomials K.ring).same e (polynomials K.ring).zero ≡ false
-        → (algebra_of f).add (element d M) (element e N) ≡ over_of ((planes K).add ((planes K).mul (row K e) (poly (polynomials K.ring) M)) ((planes K).mul (row K d) (poly (polynomials K.ring) N))) ((polynomials K.ring).mul d e)
-    add_exact d e M N nd ne = over_one _ _ _ ((polynomial_domain K).no_divisors d e nd ne) (ap (λ t. A.mul t (A.add (element d M) (element e N))) (row_product d e)
-        ∙ ring4 A algebra_is_ring (λ d e s t. (d ⊗ e) ⊗ (s ⊕ t)) (λ d e s t. e ⊗ (d ⊗ s) ⊕ d ⊗ (e ⊗ t)) refl (value_of (row K d)) (value_of (row K e)) (element d M) (element e N)
-        ∙ ap₂ (λ s t. A.add (A.mul (value_of (row K e)) s) (A.mul (value_of (row K d)) t)) (element_clear d M nd) (element_clear e N ne)
-        ∙ sym (value_map.on_add _ _ ∙ ap₂ A.add (value_map.on_mul (row K e) (poly (polynomials K.ring) M)) (value_map.on_mul (row K d) (poly (polynomials K.ring) N))))
+    pub add_exact : (d e : Poly K.ring) (M N : List (Poly K.ring))
+        → (polynomials K.ring).same d (polynomials K.ring).zero ≡ false
+        → (polynomials K.ring).same e (polynomials K.ring).zero ≡ false
+        → (algebra_of K f).add (element K f d M) (element K f e N)
+        ≡ over_of K f ((planes K).add
+        ((planes K).mul (row_of K.ring e) (poly (polynomials K.ring) M))
+        ((planes K).mul (row_of K.ring d) (poly (polynomials K.ring) N)))
+        ((polynomials K.ring).mul d e)
+    add_exact d e M N nd ne = over_one _ _ _ ((polynomial_domain K).no_divisors d e nd ne)
+        (ap (λ t. A.mul t (A.add (element K f d M) (element K f e N))) (row_product d e)
+        ∙ ring4 A algebra_is_ring (λ d e s t. (d ⊗ e) ⊗ (s ⊕ t))
+        (λ d e s t. e ⊗ (d ⊗ s) ⊕ d ⊗ (e ⊗ t)) refl (value_of K f (row_of K.ring d))
+        (value_of K f (row_of K.ring e)) (element K f d M) (element K f e N)
+        ∙ ap₂ (λ s t. A.add (A.mul (value_of K f (row_of K.ring e)) s)
+        (A.mul (value_of K f (row_of K.ring d)) t)) (element_clear d M nd) (element_clear e N ne)
+        ∙ sym (value_map.on_add _ _
+        ∙ ap₂ A.add (value_map.on_mul (row_of K.ring e) (poly (polynomials K.ring) M))
+        (value_map.on_mul (row_of K.ring d) (poly (polynomials K.ring) N))))
 
     -- what from_parts owes: a pseudo-remainder in lowest terms
-    pub from_parts_exact : (N : Plane K) (h c : Poly K.ring) (r : Plane K) (d : Poly K.ring) (M : List (Poly K.ring)) → ¬ (size (polynomials K.ring) f ≡ 0)
-        → (polynomials K.ring).same h (polynomials K.ring).zero ≡ false → (polynomials K.ring).same c (polynomials K.ring).zero ≡ false
-        → value_of r ≡ (algebra_of f).mul (value_of (row K c)) (value_of N) → size (polynomials K.ring) r < size (polynomials K.ring) f
-        → IsLowest (degree f) d M
-        → ((i : ℕ) → i < degree f → (polynomials K.ring).mul (coeff (polynomials K.ring) M i) ((polynomials K.ring).mul c h) ≡ (polynomials K.ring).mul (coeff (polynomials K.ring) r.coeffs i) d)
-        → element d M ≡ over_of N h
-    unfolding algebra_of value_of kept to_carrier
-    from_parts_exact N h c r d M nf nh nc division small low cross = over_one N h (element d M) nh (ap (A.mul (value_of (row K h))) (element_kept (kept (degree f) d M low))
-        ∙ from_parts_value K (proper f) (degree f) (proper_size f) N h c r (kept (degree f) d M low) nh nc division (let e : size (polynomials K.ring) (proper f) ≡ size (polynomials K.ring) f = ap (size (polynomials K.ring)) (proper_is f nf) in
-        let k : size (polynomials K.ring) (proper f) ≡ suc (degree f) = proper_size f in omega (arith, e, k, small)) cross)
+    pub from_parts_exact : (N : Plane K) (h c : Poly K.ring) (r : Plane K) (d : Poly K.ring)
+        (M : List (Poly K.ring)) → ¬ (size (polynomials K.ring) f ≡ 0)
+        → (polynomials K.ring).same h (polynomials K.ring).zero ≡ false
+        → (polynomials K.ring).same c (polynomials K.ring).zero ≡ false
+        → value_of K f r ≡ (algebra_of K f).mul (value_of K f (row_of K.ring c)) (value_of K f N)
+        → size (polynomials K.ring) r < size (polynomials K.ring) f
+        → IsLowest K (degree K f) d M
+        → ((i : ℕ) → i < degree K f → (polynomials K.ring).mul (coeff (polynomials K.ring) M i)
+        ((polynomials K.ring).mul c h)
+        ≡ (polynomials K.ring).mul (coeff (polynomials K.ring) r.coeffs i) d)
+        → element K f d M ≡ over_of K f N h
+    from_parts_exact N h c r d L nf nh nc division small low cross = to_model_one K f _ _
+        (element_model d L (lowest_nonzero (degree K f) d L low)
+        ∙ model_parts K f N h c r d L nh nc (sym (to_model_value K f r) ∙ ap (to_model K f) division
+        ∙ (to_model_map K f).on_mul _ _ ∙ ap₂ M.mul (to_model_value K f (row_of K.ring c))
+        (to_model_value K f N))
+        (let e : size (polynomials K.ring) (proper K f)
+        ≡ size (polynomials K.ring) f = ap (size (polynomials K.ring)) (proper_is K f nf) in
+        let k : size (polynomials K.ring) (proper K f) ≡ suc (degree K f) = proper_size K f in omega
+        (arith, e, k, small)) low cross
+        ∙ sym (over_model N h nh))
+
+    -- a plane of low degree that is not 0 has a value that is not 0
+    pub low_value : (N : Plane K) → size (polynomials K.ring) N ≤ degree K f
+        → ¬ (N ≡ (planes K).zero) → ¬ (value_of K f N ≡ (algebra_of K f).zero)
+    unfolding model model_value
+    low_value N small some e = low_nonzero K (proper K f) (degree K f) (proper_size K f) N small
+        some (sym (to_model_value K f N) ∙ ap (to_model K f) e ∙ (to_model_map K f).on_zero)
 
     -- f divides N over k(x) : the value of N is 0
-    pub zero_exact : (N : Plane K) → DividesOver K (proper f) (degree f) (proper_size f) N → value_of N ≡ (algebra_of f).zero
-    unfolding algebra_of value_of
-    zero_exact N = zero_if_divides K (proper f) (degree f) (proper_size f) N
+    pub zero_exact : (N : Plane K) → IsDivisorOver K.ring (proper K f) N → value_of K f N
+        ≡ (algebra_of K f).zero
+    unfolding model model_value
+    zero_exact N d = to_model_one K f _ _ (to_model_value K f N
+        ∙ zero_if_divides K (proper K f) (degree K f) (proper_size K f) N d
+        ∙ sym (to_model_map K f).on_zero)
+
+    -- and nowhere else
+    pub divides_exact : (N : Plane K) → value_of K f N ≡ (algebra_of K f).zero
+        → IsDivisorOver K.ring (proper K f) N
+    unfolding model model_value
+    divides_exact N e = divides_over K (proper K f) (degree K f) (proper_size K f) N
+        (sym (to_model_value K f N) ∙ ap (to_model K f) e ∙ (to_model_map K f).on_zero)
 
     -- the inverse, from u and c such that f divides u * num - c over k(x)
-    pub inverse_exact : (d : Poly K.ring) (M : List (Poly K.ring)) (u : Plane K) (c : Poly K.ring) → (polynomials K.ring).same d (polynomials K.ring).zero ≡ false → (polynomials K.ring).same c (polynomials K.ring).zero ≡ false
-        → value_of ((planes K).mul u (poly (polynomials K.ring) M)) ≡ value_of (row K c)
-        → (algebra_of f).mul (over_of ((planes K).mul (row K d) u) c) (element d M) ≡ (algebra_of f).one
-    inverse_exact d M u c nd nc e = cancel_row c nc _ _ (ring3 A algebra_is_ring (λ c o a. c ⊗ (o ⊗ a)) (λ c o a. (c ⊗ o) ⊗ a) refl (value_of (row K c)) (over_of ((planes K).mul (row K d) u) c) (element d M)
-        ∙ ap (λ t. A.mul t (element d M)) (over_clear ((planes K).mul (row K d) u) c nc ∙ value_map.on_mul (row K d) u) ∙ ring3 A algebra_is_ring (λ d u a. (d ⊗ u) ⊗ a) (λ d u a. u ⊗ (d ⊗ a)) refl (value_of (row K d)) (value_of u) (element d M)
-        ∙ ap (A.mul (value_of u)) (element_clear d M nd) ∙ sym (value_map.on_mul u (poly (polynomials K.ring) M)) ∙ e ∙ sym (algebra_is_ring.mul_one (value_of (row K c))))
+    pub inverse_exact : (d : Poly K.ring) (M : List (Poly K.ring)) (u : Plane K) (c : Poly K.ring)
+        → (polynomials K.ring).same d (polynomials K.ring).zero ≡ false
+        → (polynomials K.ring).same c (polynomials K.ring).zero ≡ false
+        → value_of K f ((planes K).mul u (poly (polynomials K.ring) M))
+        ≡ value_of K f (row_of K.ring c)
+        → (algebra_of K f).mul (over_of K f ((planes K).mul (row_of K.ring d) u) c)
+        (element K f d M) ≡ (algebra_of K f).one
+    inverse_exact d M u c nd nc e = cancel_row c nc _ _
+        (ring3 A algebra_is_ring (λ c o a. c ⊗ (o ⊗ a)) (λ c o a. (c ⊗ o) ⊗ a) refl
+        (value_of K f (row_of K.ring c)) (over_of K f ((planes K).mul (row_of K.ring d) u) c)
+        (element K f d M)
+        ∙ ap (λ t. A.mul t (element K f d M)) (over_clear ((planes K).mul (row_of K.ring d) u) c nc
+        ∙ value_map.on_mul (row_of K.ring d) u) ∙ ring3 A algebra_is_ring (λ d u a. (d ⊗ u) ⊗ a)
+        (λ d u a. u ⊗ (d ⊗ a)) refl (value_of K f (row_of K.ring d)) (value_of K f u)
+        (element K f d M)
+        ∙ ap (A.mul (value_of K f u)) (element_clear d M nd)
+        ∙ sym (value_map.on_mul u (poly (polynomials K.ring) M)) ∙ e
+        ∙ sym (algebra_is_ring.mul_one (value_of K f (row_of K.ring c))))
 
-    pub equation : ¬ (size (polynomials K.ring) f ≡ 0) → value_of f ≡ (algebra_of f).zero
-    unfolding algebra_of value_of
-    equation nf = ap value_of (sym (proper_is f nf)) ∙ equation_zero K (proper f) (degree f) (proper_size f)
+    pub equation : ¬ (size (polynomials K.ring) f ≡ 0) → value_of K f f ≡ (algebra_of K f).zero
+    equation nf = ap (value_of K f) (sym (proper_is K f nf)) ∙ zero_exact (proper K f) (record {
+      scalar = (polynomials K.ring).one;
+      nonzero = (polynomial_domain K).proper;
+      quotient = (planes K).one;
+      product = refl;
+    })
 
     -- loop invariants: a step of pseudo-division by f
-    pub reduce_step : (N r q s : Plane K) (c e : Poly K.ring) → ¬ (size (polynomials K.ring) f ≡ 0) → value_of r ≡ (algebra_of f).mul (value_of (row K c)) (value_of N)
-        → (planes K).mul (row K e) r ≡ (planes K).add ((planes K).mul q f) s → value_of s ≡ (algebra_of f).mul (value_of (row K ((polynomials K.ring).mul e c))) (value_of N)
-    reduce_step N r q s c e nf h k = sym (ap (λ t. A.mul t (value_of N)) (row_product e c) ∙ algebra_is_ring.mul_assoc (value_of (row K e)) (value_of (row K c)) (value_of N) ∙ ap (A.mul (value_of (row K e))) (sym h) ∙ sym (value_map.on_mul (row K e) r) ∙ ap value_of k
-        ∙ value_map.on_add ((planes K).mul q f) s ∙ ap (λ t. A.add t (value_of s)) (value_map.on_mul q f ∙ ap (A.mul (value_of q)) (equation nf)) ∙ ring2 A algebra_is_ring (λ q s. q ⊗ nil ⊕ s) (λ q s. s) refl (value_of q) (value_of s))
+    pub reduce_step : (N r q s : Plane K) (c e : Poly K.ring) → ¬ (size (polynomials K.ring) f ≡ 0)
+        → value_of K f r ≡ (algebra_of K f).mul (value_of K f (row_of K.ring c)) (value_of K f N)
+        → (planes K).mul (row_of K.ring e) r ≡ (planes K).add ((planes K).mul q f) s
+        → value_of K f s ≡ (algebra_of K f).mul
+        (value_of K f (row_of K.ring ((polynomials K.ring).mul e c))) (value_of K f N)
+    reduce_step N r q s c e nf h k = sym (ap (λ t. A.mul t (value_of K f N)) (row_product e c)
+        ∙ algebra_is_ring.mul_assoc (value_of K f (row_of K.ring e))
+        (value_of K f (row_of K.ring c)) (value_of K f N)
+        ∙ ap (A.mul (value_of K f (row_of K.ring e))) (sym h)
+        ∙ sym (value_map.on_mul (row_of K.ring e) r) ∙ ap (value_of K f) k
+        ∙ value_map.on_add ((planes K).mul q f) s
+        ∙ ap (λ t. A.add t (value_of K f s)) (value_map.on_mul q f
+        ∙ ap (A.mul (value_of K f q)) (equation nf)) ∙ ring2 A algebra_is_ring (λ q s. q ⊗ nil ⊕ s)
+        (λ q s. s) refl (value_of K f q) (value_of K f s))
 
     -- and a step of Euclid's loop: s * a is r for both pairs
-    pub euclid_step : (a : (algebra_of f).carrier) (r0 r1 r2 s0 s1 q : Plane K) (c : Poly K.ring)
-        → (algebra_of f).mul (value_of s0) a ≡ value_of r0 → (algebra_of f).mul (value_of s1) a ≡ value_of r1
-        → (planes K).mul (row K c) r0 ≡ (planes K).add ((planes K).mul q r1) r2
-        → (algebra_of f).mul (value_of ((planes K).add ((planes K).mul (row K c) s0) ((planes K).neg ((planes K).mul q s1)))) a ≡ value_of r2
+    pub euclid_step : (a : (algebra_of K f).carrier) (r0 r1 r2 s0 s1 q : Plane K) (c : Poly K.ring)
+        → (algebra_of K f).mul (value_of K f s0) a ≡ value_of K f r0
+        → (algebra_of K f).mul (value_of K f s1) a ≡ value_of K f r1
+        → (planes K).mul (row_of K.ring c) r0 ≡ (planes K).add ((planes K).mul q r1) r2
+        → (algebra_of K f).mul (value_of K f ((planes K).add ((planes K).mul (row_of K.ring c) s0)
+        ((planes K).neg ((planes K).mul q s1)))) a ≡ value_of K f r2
     euclid_step a r0 r1 r2 s0 s1 q c h k e =
-        ap (λ t. A.mul t a) (value_map.on_add _ _ ∙ ap₂ A.add (value_map.on_mul (row K c) s0) (value_map.on_neg ((planes K).mul q s1) ∙ ap A.neg (value_map.on_mul q s1)))
-        ∙ ring6 A algebra_is_ring (λ c s q t a z. (c ⊗ s ⊕ neg (q ⊗ t)) ⊗ a) (λ c s q t a z. c ⊗ (s ⊗ a) ⊕ neg (q ⊗ (t ⊗ a))) refl (value_of (row K c)) (value_of s0) (value_of q) (value_of s1) a a
-        ∙ ap₂ (λ x y. A.add (A.mul (value_of (row K c)) x) (A.neg (A.mul (value_of q) y))) h k
-        ∙ ap (λ t. A.add t (A.neg (A.mul (value_of q) (value_of r1)))) (sym (value_map.on_mul (row K c) r0) ∙ ap value_of e ∙ value_map.on_add _ _ ∙ ap (λ t. A.add t (value_of r2)) (value_map.on_mul q r1))
-        ∙ ring3 A algebra_is_ring (λ q r s. (q ⊗ r ⊕ s) ⊕ neg (q ⊗ r)) (λ q r s. s) refl (value_of q) (value_of r1) (value_of r2)
+        ap (λ t. A.mul t a) (value_map.on_add _ _
+        ∙ ap₂ A.add (value_map.on_mul (row_of K.ring c) s0)
+        (value_map.on_neg ((planes K).mul q s1) ∙ ap A.neg (value_map.on_mul q s1)))
+        ∙ ring6 A algebra_is_ring (λ c s q t a z. (c ⊗ s ⊕ neg (q ⊗ t)) ⊗ a)
+        (λ c s q t a z. c ⊗ (s ⊗ a) ⊕ neg (q ⊗ (t ⊗ a))) refl (value_of K f (row_of K.ring c))
+        (value_of K f s0) (value_of K f q) (value_of K f s1) a a
+        ∙ ap₂ (λ x y. A.add (A.mul (value_of K f (row_of K.ring c)) x)
+        (A.neg (A.mul (value_of K f q) y))) h k
+        ∙ ap (λ t. A.add t (A.neg (A.mul (value_of K f q) (value_of K f r1))))
+        (sym (value_map.on_mul (row_of K.ring c) r0) ∙ ap (value_of K f) e ∙ value_map.on_add _ _
+        ∙ ap (λ t. A.add t (value_of K f r2)) (value_map.on_mul q r1))
+        ∙ ring3 A algebra_is_ring (λ q r s. (q ⊗ r ⊕ s) ⊕ neg (q ⊗ r)) (λ q r s. s) refl
+        (value_of K f q) (value_of K f r1) (value_of K f r2)
 
     -- and the removal of a common factor of all rows
-    pub content_step : (a : (algebra_of f).carrier) (r s r' s' : Plane K) (g : Poly K.ring) → (polynomials K.ring).same g (polynomials K.ring).zero ≡ false
-        → (planes K).mul (row K g) r' ≡ r → (planes K).mul (row K g) s' ≡ s → (algebra_of f).mul (value_of s) a ≡ value_of r → (algebra_of f).mul (value_of s') a ≡ value_of r'
-    content_step a r s r' s' g ng hr hs e = cancel_row g ng _ _ (sym (algebra_is_ring.mul_assoc (value_of (row K g)) (value_of s') a) ∙ ap (λ t. A.mul t a) (sym (value_map.on_mul (row K g) s') ∙ ap value_of hs) ∙ e ∙ ap value_of (sym hr) ∙ value_map.on_mul (row K g) r')
+    pub content_step : (a : (algebra_of K f).carrier) (r s r' s' : Plane K) (g : Poly K.ring)
+        → (polynomials K.ring).same g (polynomials K.ring).zero ≡ false
+        → (planes K).mul (row_of K.ring g) r' ≡ r → (planes K).mul (row_of K.ring g) s' ≡ s
+        → (algebra_of K f).mul (value_of K f s) a ≡ value_of K f r
+        → (algebra_of K f).mul (value_of K f s') a ≡ value_of K f r'
+    content_step a r s r' s' g ng hr hs e = cancel_row g ng _ _
+        (sym (algebra_is_ring.mul_assoc (value_of K f (row_of K.ring g)) (value_of K f s') a)
+        ∙ ap (λ t. A.mul t a) (sym (value_map.on_mul (row_of K.ring g) s') ∙ ap (value_of K f) hs)
+        ∙ e ∙ ap (value_of K f) (sym hr) ∙ value_map.on_mul (row_of K.ring g) r')

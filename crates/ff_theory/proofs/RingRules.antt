@@ -1,7 +1,9 @@
--- The laws of a commutative ring as rules for rewriting: `simp ring_rules` at an abstract lawful ring.
+-- The laws of a commutative ring as rules for rewriting: `simp ring_rules` at an abstract lawful
+-- ring.
 use Rattle.std.proofs.Common.{◌≡◌, refl}
 use Rattle.ff_theory.specs.Ring.{RingOps, IsCommRing}
-use Rattle.ff_theory.proofs.Solver.{add_mul, mul_swap, add_swap, zero_mul, mul_zero, zero_add, one_mul, Expr, ◌⊕◌, ◌⊗◌, neg, nil, unit, ring1, ring2}
+use Rattle.ff_theory.proofs.Solver.{add_mul, mul_swap, add_swap, zero_mul, mul_zero, zero_add}
+use Rattle.ff_theory.proofs.Solver.{one_mul, Expr, ◌⊕◌, ◌⊗◌, neg, nil, unit, ring1, ring2}
 
 module _ (R : RingOps) (laws : IsCommRing R) where
   infixl 60 ◌+◌
@@ -53,4 +55,27 @@ module _ (R : RingOps) (laws : IsCommRing R) where
   pub cancel_right : (a b : C) → minus a + (a + b) ≡ b
   cancel_right a b = ring2 R laws (λ a b. neg a ⊕ (a ⊕ b)) (λ a b. b) refl a b
 
-pub ruleset ring_rules = (neg_add, mul_neg, neg_mul, neg_neg, neg_zero, add_neg, cancel_left, cancel_right, mul_add, add_mul, add_assoc, mul_assoc, mul_comm, add_comm, mul_swap, add_swap, add_zero, zero_add, mul_one, one_mul, mul_zero, zero_mul)
+pub ruleset ring_rules = (
+  neg_add,
+  mul_neg,
+  neg_mul,
+  neg_neg,
+  neg_zero,
+  add_neg,
+  cancel_left,
+  cancel_right,
+  mul_add,
+  add_mul,
+  add_assoc,
+  mul_assoc,
+  mul_comm,
+  add_comm,
+  mul_swap,
+  add_swap,
+  add_zero,
+  zero_add,
+  mul_one,
+  one_mul,
+  mul_zero,
+  zero_mul,
+)

@@ -1,14 +1,25 @@
 -- The ends of a run.
 use Rattle.std.proofs.Common.{◌≡◌, ◌⊎◌, inl, inr, ℕ, List, Option, sym, ◌∙◌, subst}
-use Rattle.ff_io.specs.Bytes.{TakesSome}
 use Rattle.std.specs.Io.KnownBytes.{Appends}
 use Rattle.ff_io.specs.Bytes.{AppendsProperPrefix}
-use Rattle.ff_top.specs.declared.status.Status.{Status}
-use Rattle.ff_top.specs.declared.status.Status.TheVariants.{Done, BadInput, Premise, Limit, ReadFault, WriteFault, NoMemory, Usage}
 use Rattle.ff_text.specs.declared.fault.TextFault.{TextFault}
 use Rattle.ff_text.specs.declared.fault.TextFault.TheVariants as fault
-use Rattle.ff_top.specs.Check.{IsFaultOf, status_of, IsCheckAnswer}
-use Rattle.ff_top.specs.Run.{Ends, Writes, AnswersUsage, AnswersReadFault, AnswersBytes, IsReadAnswer}
+use Rattle.ff_text.specs.declared.layout.Mode.{Mode}
+use Rattle.ff_text.specs.declared.layout.Mode.TheVariants as mode
+use Rattle.ff_text.specs.Grammar.{Text}
+use Rattle.ff_top.specs.declared.status.Status.{Status}
+use Rattle.ff_top.specs.declared.status.Status.TheVariants.{Done, BadInput, Premise, Limit}
+use Rattle.ff_top.specs.declared.status.Status.TheVariants.{ReadFault, WriteFault, NoMemory, Usage}
+use Rattle.ff_top.specs.Words.{IsCommand, HasCommand}
+use Rattle.ff_top.specs.Input.{IsFaultOf, IsInputAnswer, status_of}
+use Rattle.ff_top.specs.Run.{Ends, IsReadAnswer, Judges, Writes}
+
+-- where the words are not `check`, they are no command
+pub no_command : (words : List (List ℕ)) → ¬ IsCommand words mode.Check → ¬ HasCommand words
+no_command words h (mode.Check, c) = h c
+no_command words h (mode.Iso, c) = c
+no_command words h (mode.Aut, c) = c
+no_command words h (mode.Order, c) = c
 
 -- a status that stands with a text of its own
 abbrev pub HasText : Status → Type 0
@@ -17,36 +28,54 @@ HasText WriteFault = ⊥
 HasText _ = Unit {0}
 
 -- one that the bytes of an input can have
-abbrev pub IsVerdict : Status → Type 0
-IsVerdict Done = Unit {0}
-IsVerdict BadInput = Unit {0}
-IsVerdict Limit = Unit {0}
-IsVerdict _ = ⊥
+abbrev pub IsOfInput : Status → Type 0
+IsOfInput Done = Unit {0}
+IsOfInput BadInput = Unit {0}
+IsOfInput Premise = Unit {0}
+IsOfInput Limit = Unit {0}
+IsOfInput _ = ⊥
 
-pub verdict_of_fault : (bytes : List ℕ) (f : TextFault) → IsFaultOf bytes f → IsVerdict (status_of f)
-verdict_of_fault bytes fault.NoMemory h = absurd h
-verdict_of_fault bytes (fault.Syntax at) h = tt
-verdict_of_fault bytes fault.NotPrime h = tt
-verdict_of_fault bytes (fault.NoY w) h = tt
-verdict_of_fault bytes (fault.ZeroDenominator w) h = tt
-verdict_of_fault bytes (fault.Degree w) h = tt
+fault_is_of_input : (mode : Mode) (bytes : List ℕ) (f : TextFault) → IsFaultOf mode bytes f
+    → IsOfInput (status_of f)
+fault_is_of_input mode bytes fault.NoMemory h = absurd h
+fault_is_of_input mode bytes (fault.Syntax at) h = tt
+fault_is_of_input mode bytes fault.NotPrime h = tt
+fault_is_of_input mode bytes (fault.NoY w) h = tt
+fault_is_of_input mode bytes (fault.ZeroDenominator w) h = tt
+fault_is_of_input mode bytes (fault.Degree w) h = tt
 
-pub verdict_of_check : (bytes : List ℕ) (status : Status) (text : List ℕ) → IsCheckAnswer bytes status text → IsVerdict status
-verdict_of_check bytes status text (inl h) = subst (λ s. IsVerdict s) (sym h.status_is) tt
-verdict_of_check bytes status text (inr (inl h)) = subst (λ s. IsVerdict s) (sym h.status_is) (verdict_of_fault bytes h.found h.is_fault)
-verdict_of_check bytes status text (inr (inr h)) = subst (λ s. IsVerdict s) (sym h.status_is) tt
+judged_is_of_input : (mode : Mode) (v : Text) (before after : ℕ) (status : Status)
+    (text : List ℕ) → Judges mode v before after status text → IsOfInput status
+judged_is_of_input mode.Check v before after status text h =
+    subst (λ s. IsOfInput s) (sym h.status_is) tt
+judged_is_of_input mode.Iso v before after status text h = absurd h
+judged_is_of_input mode.Aut v before after status text h = absurd h
+judged_is_of_input mode.Order v before after status text h = absurd h
 
-pub verdict_has_text : (status : Status) → IsVerdict status → HasText status
-verdict_has_text Done h = tt
-verdict_has_text BadInput h = tt
-verdict_has_text Limit h = tt
-verdict_has_text Premise h = absurd h
-verdict_has_text ReadFault h = absurd h
-verdict_has_text WriteFault h = absurd h
-verdict_has_text NoMemory h = absurd h
-verdict_has_text Usage h = absurd h
+answer_is_of_input : (mode : Mode) (bytes : List ℕ) (before after : ℕ) (status : Status)
+    (text : List ℕ) → IsInputAnswer mode (Judges mode) bytes before after status text
+    → IsOfInput status
+answer_is_of_input mode bytes before after status text (inl h) =
+    subst (λ s. IsOfInput s) (sym h.status_is) tt
+answer_is_of_input mode bytes before after status text (inr (inl h)) =
+    subst (λ s. IsOfInput s) (sym h.status_is) (fault_is_of_input mode bytes h.found h.is_fault)
+answer_is_of_input mode bytes before after status text (inr (inr h)) =
+    let v = h.judged.text in
+    let j : Judges mode v before after status text = h.judged.holds v h.judged.derives in
+    judged_is_of_input mode v before after status text j
 
-whole : (P : Status → List ℕ → Type 0) (status : Status) (text : List ℕ) (old new : Option (List ℕ)) → HasText status → P status text → Appends old new text → Writes P old new status
+of_input_has_text : (status : Status) → IsOfInput status → HasText status
+of_input_has_text Done h = tt
+of_input_has_text BadInput h = tt
+of_input_has_text Premise h = tt
+of_input_has_text Limit h = tt
+of_input_has_text ReadFault h = absurd h
+of_input_has_text WriteFault h = absurd h
+of_input_has_text NoMemory h = absurd h
+of_input_has_text Usage h = absurd h
+
+whole : (P : Status → List ℕ → Type 0) (status : Status) (text : List ℕ) (old new : Option (List ℕ))
+    → HasText status → P status text → Appends old new text → Writes P old new status
 whole P Done text old new k p a = (text, p, a)
 whole P BadInput text old new k p a = (text, p, a)
 whole P Premise text old new k p a = (text, p, a)
@@ -57,28 +86,37 @@ whole P NoMemory text old new k p a = absurd k
 whole P WriteFault text old new k p a = absurd k
 
 -- an end with an answer of the run is what the run promises to write
-pub ends_writes : (P : Status → List ℕ → Type 0) (status : Status) (text : List ℕ) (old new : Option (List ℕ)) (result : Status)
-    → HasText status → P status text → Ends status text old new result → Writes P old new result
-ends_writes P status text old new result k p (inl (e, a)) = let W : Status → Type 0 = λ s. Writes P old new s in subst W (sym e) (whole P status text old new k p a)
-ends_writes P status text old new result k p (inr (e, a)) = let W : Status → Type 0 = λ s. Writes P old new s in subst W (sym e) (status, text, p, a)
+pub ends_writes : (P : Status → List ℕ → Type 0) (status : Status) (text : List ℕ)
+    (old new : Option (List ℕ)) (result : Status) → HasText status → P status text
+    → Ends status text old new result → Writes P old new result
+ends_writes P status text old new result k p (inl (e, a)) =
+    subst (λ s. Writes P old new s) (sym e) (whole P status text old new k p a)
+ends_writes P status text old new result k p (inr (e, a)) =
+    subst (λ s. Writes P old new s) (sym e) (status, text, p, a)
 
-module _ (old new : Option (List ℕ)) (rose : Type 0) (status : Status) (text : List ℕ) where
-  pub read_answer_has_text : IsReadAnswer old new rose status text → HasText status
-  read_answer_has_text (inl a) = let P : Status → Type 0 = λ s. HasText s in subst P (sym a.status_is) tt
-  read_answer_has_text (inr a) = verdict_has_text status (verdict_of_check a.bytes status text a.answer)
+-- the answer of a command has a text, and the status of a read fault has its cause
+module _ (mode : Mode) (old new : Option (List ℕ)) (rose : Type 0) (before after : ℕ)
+    (status : Status) (text : List ℕ) where
+  pub read_answer_has_text : IsReadAnswer mode old new rose before after status text
+      → HasText status
+  read_answer_has_text (inl a) = subst (λ s. HasText s) (sym a.status_is) tt
+  read_answer_has_text (inr a) =
+      of_input_has_text status (answer_is_of_input mode a.bytes before after status text a.answer)
 
-  -- the status of a read fault has its cause
-  pub read_fault_cause : IsReadAnswer old new rose status text → status ≡ ReadFault → rose
+  pub read_fault_cause : IsReadAnswer mode old new rose before after status text
+      → status ≡ ReadFault → rose
   read_fault_cause (inl a) e = a.cause
-  read_fault_cause (inr a) e = absurd (let P : Status → Type 0 = λ s. IsVerdict s in subst P e (verdict_of_check a.bytes status text a.answer))
+  read_fault_cause (inr a) e = absurd (subst (λ s. IsOfInput s) e
+      (answer_is_of_input mode a.bytes before after status text a.answer))
 
 -- the end of a run whose status is none of those that the end itself gives
-module _ (status : Status) (text : List ℕ) (old new : Option (List ℕ)) (result : Status) (k : HasText status) (ends : Ends status text old new result) where
+module _ (status : Status) (text : List ℕ) (old new : Option (List ℕ)) (result : Status)
+    (k : HasText status) (ends : Ends status text old new result) where
   pub end_not_memory : ¬ (result ≡ NoMemory)
   end_not_memory e = go ends
     where
       go : Ends status text old new result → ⊥
-      go (inl (f, a)) = let P : Status → Type 0 = λ s. HasText s in subst P (sym f ∙ e) k
+      go (inl (f, a)) = subst (λ s. HasText s) (sym f ∙ e) k
       go (inr (f, a)) = let g : WriteFault ≡ NoMemory = sym f ∙ e in cc
 
   pub end_read_fault : result ≡ ReadFault → status ≡ ReadFault
@@ -89,4 +127,4 @@ module _ (status : Status) (text : List ℕ) (old new : Option (List ℕ)) (resu
       go (inr (f, a)) = let g : WriteFault ≡ ReadFault = sym f ∙ e in cc
 
   pub end_write_fault : result ≡ WriteFault → ¬ (result ≡ status)
-  end_write_fault e f = let P : Status → Type 0 = λ s. HasText s in subst P (sym f ∙ e) k
+  end_write_fault e f = subst (λ s. HasText s) (sym f ∙ e) k

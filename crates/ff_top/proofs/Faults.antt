@@ -1,24 +1,55 @@
 -- The first fault of an input.
-use Rattle.std.proofs.Common.{◌≡◌, ℕ, ◌+◌, ◌<◌, ◌≤◌, ◌⊎◌, inl, inr, List, length, Result, Ok, Err, refl, sym, subst, arith}
+use Rattle.std.proofs.Common.{◌≡◌, ℕ, ◌+◌, ◌<◌, ◌≤◌, ◌⊎◌, inl, inr, List, [], ◌∷◌, length}
+use Rattle.std.proofs.Common.{Result, Ok, Err, refl, ◌∙◌, sym, subst, arith}
 use Rattle.std.specs.Prelude.{IfOk}
 use Rattle.ff_text.specs.declared.fault.TextFault.{TextFault}
 use Rattle.ff_text.specs.declared.fault.TextFault.TheVariants as fault
-use Rattle.ff_text.specs.declared.form.Mode.TheVariants as mode
+use Rattle.ff_text.specs.declared.layout.Line.{Line}
+use Rattle.ff_text.specs.declared.layout.Mode.{Mode}
+use Rattle.ff_text.specs.declared.job.TheConstants.{MAX_BYTES}
+use Rattle.ff_text.specs.declared.layout.Mode.TheVariants as mode
 use Rattle.ff_text.specs.declared.job.Job.{Job}
-use Rattle.ff_text.specs.Grammar.{Entry, Text, Derives, IsFaultAt}
-use Rattle.ff_text.specs.Values.{LacksY, IsOverZero, EquationPasses, ElementPasses, IsEntry, Says, IsFirst, Answers, NeedsText}
+use Rattle.ff_text.specs.declared.symbol.Symbol.{Symbol}
+use Rattle.ff_text.specs.Grammar.{Entry, Text, Lines, IsText, Derives, IsFaultAt, lines_of}
+use Rattle.ff_text.specs.Values.{LacksY, IsOverZero, EquationExceeds, ElementExceeds, IsEntry}
+use Rattle.ff_text.specs.Values.{Says, IsFirst, Answers, NeedsText}
 use Rattle.ff_text.specs.Printed.{HasText, fault_text}
-use Rattle.ff_top.specs.Check.{HoldsForText, IsFaultOf, IsCheckAnswer, Counts, status_of}
+use Rattle.ff_top.specs.Input.{HoldsForText, IsFaultOf, IsInputAnswer, status_of}
 use Rattle.ff_top.specs.declared.status.Status.{Status}
-use Rattle.ff_top.proofs.Jobs.{six_length}
 
--- what is said of a text that is refused
-module _ (bytes : List ℕ) where
-  refused_text : (f : TextFault) → ((v : Text) × Derives mode.Check bytes v) → ((v : Text) → Derives mode.Check bytes v → IsFirst v f) → HoldsForText bytes (λ v. IsFirst v f)
+-- ---- A text has at most six entries
+
+lines_length : {ls : List Line} {s : List Symbol} {es : List Entry} → Lines ls s es
+    → length es ≡ length ls
+lines_length (Lines.none z) = refl
+lines_length (Lines.equation a b p e ls) = omega (arith, lines_length ls)
+lines_length (Lines.element a b p e ls) = omega (arith, lines_length ls)
+
+at_most_six : (mode : Mode) → length (lines_of mode) ≤ 6
+at_most_six mode.Iso = omega arith
+at_most_six mode.Aut = omega arith
+at_most_six mode.Order = omega arith
+at_most_six mode.Check = omega arith
+
+entries_length : (mode : Mode) (bytes : List ℕ) (v : Text) → Derives mode bytes v
+    → length v.entries ≤ 6
+entries_length mode bytes v (IsText.text a b n c l ls) =
+    omega (arith, lines_length ls, at_most_six mode)
+
+-- ---- What is said of a text that is refused
+
+module _ (mode : Mode) (bytes : List ℕ) where
+  refused_text : (f : TextFault) → ((v : Text) × Derives mode bytes v)
+      → ((v : Text) → Derives mode bytes v → IsFirst v f)
+      → HoldsForText mode bytes (λ v. IsFirst v f)
   refused_text f d h = record { text = d.0; derives = d.1; holds = h }
 
-  pub fault_of : (f : TextFault) → ¬ (f ≡ fault.NoMemory) → ((at : ℕ) → ◌≡◌ {A = Result Job TextFault} (Err f) (Err (fault.Syntax at)) → IsFaultAt mode.Check bytes at)
-      → ((v : Text) → Derives mode.Check bytes v → Answers v (Err f)) → (NeedsText (Err f) → (v : Text) × Derives mode.Check bytes v) → IsFaultOf bytes f
+  pub fault_of : (f : TextFault) → ¬ (f ≡ fault.NoMemory)
+      → ((at : ℕ) → ◌≡◌ {A = Result Job TextFault} (Err f) (Err (fault.Syntax at))
+      → IsFaultAt mode bytes at)
+      → ((v : Text) → Derives mode bytes v → Answers v (Err f))
+      → (NeedsText (Err f) → (v : Text) × Derives mode bytes v)
+      → IsFaultOf mode bytes f
   fault_of (fault.Syntax at) n s h d = s at refl
   fault_of fault.NotPrime n s h d = refused_text fault.NotPrime (d tt) h
   fault_of (fault.NoY w) n s h d = refused_text (fault.NoY w) (d tt) h
@@ -26,52 +57,63 @@ module _ (bytes : List ℕ) where
   fault_of (fault.Degree w) n s h d = refused_text (fault.Degree w) (d tt) h
   fault_of fault.NoMemory n s h d = absurd (n refl)
 
-  says_of : (f : TextFault) → (h : HoldsForText bytes (λ v. IsFirst v f)) → Says h.text f
+  says_of : (f : TextFault) → (h : HoldsForText mode bytes (λ v. IsFirst v f)) → Says h.text f
   says_of f h = (h.holds h.text h.derives).says
 
--- an entry of six is one of 1 to 6
+-- an entry of at most six is one of 1 to 6
 entry_low : (P : Entry → Type 0) (es : List Entry) (w : ℕ) → IsEntry P es w → 1 ≤ w
 entry_low P es w e = omega (arith, e.1)
 
-entry_high : (P : Entry → Type 0) (es : List Entry) (w : ℕ) → length es ≡ 6 → IsEntry P es w → w ≤ 6
+entry_high : (P : Entry → Type 0) (es : List Entry) (w : ℕ) → length es ≤ 6 → IsEntry P es w
+    → w ≤ 6
 entry_high P es w six e = omega (arith, e.1, e.2, six)
 
-pub fault_has_text : (bytes : List ℕ) (f : TextFault) → IsFaultOf bytes f → HasText f
-fault_has_text bytes (fault.Syntax at) h = tt
-fault_has_text bytes fault.NotPrime h = tt
-fault_has_text bytes (fault.NoY w) h =
-    let s = says_of bytes (fault.NoY w) h in
+pub fault_has_text : (mode : Mode) (bytes : List ℕ) (f : TextFault) → IsFaultOf mode bytes f
+    → HasText f
+fault_has_text mode bytes (fault.Syntax at) h = tt
+fault_has_text mode bytes fault.NotPrime h = tt
+fault_has_text mode bytes (fault.NoY w) h =
+    let s = says_of mode bytes (fault.NoY w) h in
     (entry_low (LacksY h.text.number) h.text.entries w s.1, s.0)
-fault_has_text bytes (fault.ZeroDenominator w) h =
-    let s = says_of bytes (fault.ZeroDenominator w) h in
-    (s.0, entry_high (IsOverZero h.text.number) h.text.entries w (six_length bytes h.text h.derives) s.1)
-fault_has_text bytes (fault.Degree w) h = degree (says_of bytes (fault.Degree w) h)
+fault_has_text mode bytes (fault.ZeroDenominator w) h =
+    let s = says_of mode bytes (fault.ZeroDenominator w) h in
+    let six = entries_length mode bytes h.text h.derives in
+    (s.0, entry_high (IsOverZero h.text.number) h.text.entries w six s.1)
+fault_has_text mode bytes (fault.Degree w) h = degree (says_of mode bytes (fault.Degree w) h)
   where
-    degree : ((w ≤ 2) × IsEntry (EquationPasses h.text.number) h.text.entries w) ⊎ ((3 ≤ w) × IsEntry (ElementPasses h.text.number) h.text.entries w) → (1 ≤ w) × (w ≤ 6)
-    degree (inl s) = (entry_low (EquationPasses h.text.number) h.text.entries w s.1, omega (arith, s.0))
-    degree (inr s) = (omega (arith, s.0), entry_high (ElementPasses h.text.number) h.text.entries w (six_length bytes h.text h.derives) s.1)
-fault_has_text bytes fault.NoMemory h = absurd h
+    degree : ((w ≤ 2) × IsEntry (EquationExceeds h.text.number) h.text.entries w)
+        ⊎ ((3 ≤ w) × IsEntry (ElementExceeds h.text.number) h.text.entries w) → (1 ≤ w) × (w ≤ 6)
+    degree (inl s) =
+        (entry_low (EquationExceeds h.text.number) h.text.entries w s.1, omega (arith, s.0))
+    degree (inr s) =
+        let six = entries_length mode bytes h.text h.derives in (
+          omega (arith, s.0),
+          entry_high (ElementExceeds h.text.number) h.text.entries w six s.1,
+        )
+fault_has_text mode bytes fault.NoMemory h = absurd h
 
--- what follows from two and from three promises on a value
-pub if_ok2 : {T E : Type 0} (r : Result T E) (P Q R : T → Type 0) → ((x : T) → P x → Q x → R x) → IfOk r P → IfOk r Q → IfOk r R
+-- ---- What follows from two and from three promises on a value
+
+pub if_ok2 : {T E : Type 0} (r : Result T E) (P Q R : T → Type 0) → ((x : T) → P x → Q x → R x)
+    → IfOk r P → IfOk r Q → IfOk r R
 if_ok2 (Ok x) P Q R f p q = f x p q
 if_ok2 (Err e) P Q R f p q = tt
 
-pub if_ok3 : {T E : Type 0} (r : Result T E) (P Q S R : T → Type 0) → ((x : T) → P x → Q x → S x → R x) → IfOk r P → IfOk r Q → IfOk r S → IfOk r R
+pub if_ok3 : {T E : Type 0} (r : Result T E) (P Q S R : T → Type 0)
+    → ((x : T) → P x → Q x → S x → R x) → IfOk r P → IfOk r Q → IfOk r S → IfOk r R
 if_ok3 (Ok x) P Q S R f p q s = f x p q s
 if_ok3 (Err e) P Q S R f p q s = tt
 
--- the answer to a fault, and its count of tests
-pub fault_answer : (bytes : List ℕ) (f : TextFault) (status : Status) (text : List ℕ) → length bytes ≤ 65536 → IsFaultOf bytes f → status ≡ status_of f → text ≡ fault_text f → IsCheckAnswer bytes status text
-fault_answer bytes f status text within is s t = inr (inl (record { within = within; found = f; is_fault = is; status_is = s; text_is = t }))
-
-pub refused_counts : (f : TextFault) (n : ℕ) (status : Status) → ¬ (f ≡ fault.NoMemory) → status ≡ status_of f → Counts n n status
-refused_counts f n status h e = subst (λ s. Counts n n s) (sym e) (go f h)
-  where
-    go : (f : TextFault) → ¬ (f ≡ fault.NoMemory) → Counts n n (status_of f)
-    go (fault.Syntax at) h = refl
-    go fault.NotPrime h = refl
-    go (fault.NoY w) h = refl
-    go (fault.ZeroDenominator w) h = refl
-    go (fault.Degree w) h = refl
-    go fault.NoMemory h = absurd (h refl)
+-- the answer to a fault
+pub fault_answer : (mode : Mode) (judges : Text → ℕ → ℕ → Status → List ℕ → Type 0)
+    (bytes : List ℕ) (f : TextFault) (count : ℕ) (status : Status) (text : List ℕ)
+    → length bytes ≤ MAX_BYTES → IsFaultOf mode bytes f → status ≡ status_of f → text ≡ fault_text f
+    → IsInputAnswer mode judges bytes count count status text
+fault_answer mode judges bytes f count status text within is s t = inr (inl (record {
+  within = within;
+  found = f;
+  is_fault = is;
+  unticked = refl;
+  status_is = s;
+  text_is = t;
+}))

@@ -1,5 +1,7 @@
 -- What is known of the job of a text of `check`.
-use Rattle.std.proofs.Common.{◌≡◌, ℕ, zero, suc, ◌+◌, ◌%◌, ◌<◌, ◌≤◌, Bool, true, false, eqb, ◌&&◌, cond, List, [], ◌∷◌, length, get_or, Option, Some, None, Ok, refl, sym, ap, subst, ◌∙◌, arith, lit<, lit≤, ⊎_elim}
+use Rattle.std.proofs.Common.{◌≡◌, ℕ, zero, suc, ◌+◌, ◌%◌, ◌<◌, ◌≤◌, Bool, true, false, eqb, ◌&&◌}
+use Rattle.std.proofs.Common.{cond, List, [], ◌∷◌, length, get_or, Option, Some, None, Ok, refl}
+use Rattle.std.proofs.Common.{sym, ap, subst, ◌∙◌, arith, lit<, lit≤, ⊎_elim}
 use Rattle.std.specs.List.{sum_by, AllZip, All}
 use Rattle.std.proofs.lemmas.Bool.{cases_lt, ne_eqb}
 use Rattle.std.proofs.lemmas.List.{nil_from_length, get_or_past}
@@ -7,19 +9,22 @@ use Rattle.std.proofs.lemmas.List.Sums.{sum_by-cons}
 use Rattle.std.proofs.Math.Nat.{zero-mod}
 use Rattle.ff_theory.specs.PrimeTable.{prime_elements}
 use Rattle.ff_text.specs.declared.fault.TextFault.TheVariants as fault
-use Rattle.ff_text.specs.declared.form.Mode.TheVariants as mode
+use Rattle.ff_text.specs.declared.layout.Mode.TheVariants as mode
 use Rattle.ff_text.specs.declared.job.RawElem.{RawElem}
 use Rattle.ff_text.specs.declared.job.Job.{Job}
 use Rattle.ff_text.specs.declared.reader.Monomial.{Monomial}
 use Rattle.ff_text.specs.declared.symbol.Sign.{Sign}
 use Rattle.ff_text.specs.declared.symbol.Sign.TheVariants.{Plus, Minus}
 use Rattle.ff_text.specs.declared.symbol.Symbol.{Symbol}
-use Rattle.ff_text.specs.Grammar.{monomial, Factor, Product, SignedTerms, Polynomial, Element, Lines, IsText, Term, Entry, Text, Derives, form}
+use Rattle.ff_text.specs.Grammar.{monomial, Factor, Product, SignedTerms, Polynomial, Element}
+use Rattle.ff_text.specs.Grammar.{Lines, IsText, Term, Entry, Text, Derives, lines_of}
 use Rattle.ff_text.specs.Reading.{reduced_term}
-use Rattle.ff_text.specs.Sums.{share, total, IsSum, IsSumInX}
-use Rattle.ff_text.specs.Values.{terms_of, terms_or_one, denominator_of, numerator_of, IsZero, LacksY, IsOverZero, IsEntry, IsElement, HoldsEntries, Answers}
+use Rattle.ff_text.specs.Sums.{share, total}
+use Rattle.ff_text.specs.Values.{terms_of, terms_or_one, denominator_of, numerator_of, IsZero}
+use Rattle.ff_text.specs.Values.{IsOverZero, IsEntry, IsElement, HasEquations, HoldsEntries}
+use Rattle.ff_text.specs.Values.{Answers}
 use Rattle.ff_prime.specs.Number.{number_of}
-use Rattle.ff_top.specs.Check.{IsFraction, IsSoundOver, IsSound}
+use Rattle.ff_top.specs.Check.{IsFraction, IsSound}
 
 -- ---- No y stands in a denominator
 
@@ -54,7 +59,8 @@ element_flat (Element.quotient b n c d f den z) = polynomial_flat den
 -- ---- So its sum has no y
 
 share_apart : (i j : ℕ) (m : Monomial) → m.y ≡ 0 → 0 < j → share i j m ≡ 0
-share_apart i j m e h = ap (λ b. cond (eqb m.x i && b) m.coefficient 0) (ne_eqb m.y j (λ k. absurd (omega (arith, e, h, k)))) ∙ go (eqb m.x i)
+share_apart i j m e h = ap (λ b. cond (eqb m.x i && b) m.coefficient 0)
+    (ne_eqb m.y j (λ k. absurd (omega (arith, e, h, k)))) ∙ go (eqb m.x i)
   where
     go : (b : Bool) → cond (b && false) m.coefficient 0 ≡ 0
     go true = refl
@@ -69,86 +75,97 @@ term_y p t = go t.sign t
 
 flat_sum : (p i j : ℕ) (ts : List Term) → Flat ts → 0 < j → sum_by (share i j) (terms_of p ts) ≡ 0
 flat_sum p i j [] h pos = refl
-flat_sum p i j (t ∷ ts) h pos = omega (arith, sum_by-cons (share i j) (reduced_term p t) (terms_of p ts), share_apart i j (reduced_term p t) (term_y p t ∙ h.0) pos, flat_sum p i j ts h.1 pos)
+flat_sum p i j (t ∷ ts) h pos = omega (
+  arith,
+  sum_by-cons (share i j) (reduced_term p t) (terms_of p ts),
+  share_apart i j
+      (reduced_term p t) (term_y p t ∙ h.0) pos,
+  flat_sum p i j ts h.1 pos,
+)
 
 flat_total : (p i j : ℕ) (ts : List Term) → Flat ts → 0 < j → total p (terms_of p ts) i j ≡ 0
 flat_total p i j ts h pos = ap (λ n. n % p) (flat_sum p i j ts h pos) ∙ zero-mod p
 
-denominator_total : (p i j : ℕ) (e : Entry) → FlatOrNone e.denominator → 0 < j → total p (denominator_of p e) i j ≡ 0
+denominator_total : (p i j : ℕ) (e : Entry) → FlatOrNone e.denominator → 0 < j
+    → total p (denominator_of p e) i j ≡ 0
 denominator_total p i j e h pos = go e.denominator h
   where
     go : (o : Option (List Term)) → FlatOrNone o → total p (terms_or_one p o) i j ≡ 0
-    go None h = ap (λ n. n % p) (let one : share i j (monomial 1 0 0) ≡ 0 = share_apart i j (monomial 1 0 0) refl pos in omega (arith, sum_by-cons (share i j) (monomial 1 0 0) [], one)) ∙ zero-mod p
+    go None h = ap (λ n. n % p) (let one : share i j (monomial 1 0 0) ≡ 0 = share_apart i j
+        (monomial 1 0 0) refl pos in omega
+        (arith, sum_by-cons (share i j) (monomial 1 0 0) [], one)) ∙ zero-mod p
     go (Some ts) h = flat_total p i j ts h pos
 
 -- ---- What it means that there is no fault
 
-fraction : (p : ℕ) (e : Entry) (r : RawElem) → FlatOrNone e.denominator → IsElement p e r → ¬ IsOverZero p e → IsFraction (prime_elements p) r
-fraction p e r flat is right = record { num = is.numerator.plane; den = is.denominator.poly; nonzero = ⊎_elim (λ (lt : 0 < length r.den). lt) (λ (le : length r.den ≤ 0). absurd (right (zero_sum (nil_from_length r.den (omega (arith, le)))))) (cases_lt 0 (length r.den)) }
+fraction : (p : ℕ) (e : Entry) (r : RawElem) → FlatOrNone e.denominator → IsElement p e r
+    → ¬ IsOverZero p e → IsFraction (prime_elements p) r
+fraction p e r flat is right = record {
+  num = is.numerator.plane;
+  den = is.denominator.poly;
+  nonzero = ⊎_elim
+      (λ (lt : 0 < length r.den). lt)
+      (λ (le : length r.den ≤ 0). absurd
+      (right (zero_sum (nil_from_length r.den (omega (arith, le)))))) (cases_lt 0 (length r.den));
+}
   where
     zero_sum : r.den ≡ [] → IsZero p (denominator_of p e)
     zero_sum empty i zero = sym (is.denominator.same i) ∙ ap (λ (c : List ℕ). get_or c i 0) empty
     zero_sum empty i (suc j) = denominator_total p i (suc j) e flat (omega arith)
 
-equation_has_y : (p : ℕ) (e : Entry) (f : List (List ℕ)) → IsSum p (numerator_of p e) f → ¬ LacksY p e → 1 < length f
-equation_has_y p e f is right = ⊎_elim (λ (lt : 1 < length f). lt) (λ (le : length f ≤ 1). absurd (right (lacks le))) (cases_lt 1 (length f))
-  where
-    lacks : length f ≤ 1 → LacksY p e
-    lacks le h =
-        let none : get_or f h.j [] ≡ [] = get_or_past f h.j [] (omega (arith, le, h.positive)) in
-        let zero : 0 ≡ total p (numerator_of p e) h.i h.j = ap (λ (c : List ℕ). get_or c h.i 0) (sym none) ∙ is.same h.i h.j in
-        let some : 0 < total p (numerator_of p e) h.i h.j = h.occurs in
-        absurd (omega (arith, zero, some))
-
 -- ---- The six entries
 
 data Six : List Entry → Type 0 where
-  six : {f g x y u v : Entry} → FlatOrNone x.denominator → FlatOrNone y.denominator → FlatOrNone u.denominator → FlatOrNone v.denominator → Six (f ∷ g ∷ x ∷ y ∷ u ∷ v ∷ [])
+  six : {f g x y u v : Entry} → FlatOrNone x.denominator → FlatOrNone y.denominator
+      → FlatOrNone u.denominator → FlatOrNone v.denominator → Six (f ∷ g ∷ x ∷ y ∷ u ∷ v ∷ [])
 
-six_entries : {s : List Symbol} {v : Text} → IsText (form mode.Check) s v → Six v.entries
-six_entries (IsText.text a b n c l (Lines.equation a0 b0 p0 l0 (Lines.equation a1 b1 p1 l1 (Lines.element a2 b2 e2 l2 (Lines.element a3 b3 e3 l3 (Lines.element a4 b4 e4 l4 (Lines.element a5 b5 e5 l5 (Lines.none z)))))))) =
+six_entries : {s : List Symbol} {v : Text} → IsText (lines_of mode.Check) s v → Six v.entries
+six_entries (IsText.text a b n c l
+    (Lines.equation a0 b0 p0 l0 (Lines.equation a1 b1 p1 l1 (Lines.element a2 b2 e2 l2
+    (Lines.element a3 b3 e3 l3 (Lines.element a4 b4 e4 l4 (Lines.element a5 b5 e5 l5 (Lines.none
+    z)))))))) =
     six (element_flat e2) (element_flat e3) (element_flat e4) (element_flat e5)
 
-six_count : (es : List Entry) → Six es → length es ≡ 6
-six_count es (six x y u v) = refl
+module _ (p : ℕ) (x y u v : Entry) (fx : FlatOrNone x.denominator) (fy : FlatOrNone y.denominator)
+    (fu : FlatOrNone u.denominator) (fv : FlatOrNone v.denominator)
+    (rx : ¬ IsOverZero p x) (ry : ¬ IsOverZero p y) (ru : ¬ IsOverZero p u) (rv : ¬ IsOverZero p v)
+  where
+    four_fractions : (rs : List RawElem) → AllZip (IsElement p) (x ∷ y ∷ u ∷ v ∷ []) rs
+        → (length rs ≡ 4) × All (IsFraction (prime_elements p)) rs
+    four_fractions [] h = absurd h
+    four_fractions (a ∷ []) h = absurd h.1
+    four_fractions (a ∷ b ∷ []) h = absurd h.1.1
+    four_fractions (a ∷ b ∷ c ∷ []) h = absurd h.1.1.1
+    four_fractions (a ∷ b ∷ c ∷ d ∷ []) h = (refl, each)
+      where
+        each : All (IsFraction (prime_elements p)) (a ∷ b ∷ c ∷ d ∷ [])
+        each zero e l = fraction p x a fx h.0 rx
+        each (suc zero) e l = fraction p y b fy h.1.0 ry
+        each (suc (suc zero)) e l = fraction p u c fu h.1.1.0 ru
+        each (suc (suc (suc zero))) e l = fraction p v d fv h.1.1.1.0 rv
+        each (suc (suc (suc (suc k)))) e l = absurd (omega (arith, l))
+    four_fractions (a ∷ b ∷ c ∷ d ∷ e ∷ rs) h = absurd h.1.1.1.1
 
-pub six_length : (bytes : List ℕ) (v : Text) → Derives mode.Check bytes v → length v.entries ≡ 6
-six_length bytes v derives = six_count v.entries (six_entries derives)
+fractions_of_six : (p : ℕ) (es : List Entry) (job : Job) → Six es → HoldsEntries p es job
+    → ((w : ℕ) → 3 ≤ w → ¬ IsEntry (IsOverZero p) es w)
+    → (length job.elems.items ≡ 4) × All (IsFraction (prime_elements p)) job.elems.items
+fractions_of_six p es job
+    (six {f = f} {g = g} {x = x} {y = y} {u = u} {v = v} fx fy fu fv) holds not_zero =
+    four_fractions p x y u v fx fy fu fv
+    (λ h. not_zero 3 (lit≤ tt) (2, refl, lit< tt, λ d. h))
+    (λ h. not_zero 4 (lit≤ tt) (3, refl, lit< tt, λ d. h))
+    (λ h. not_zero 5 (lit≤ tt) (4, refl, lit< tt, λ d. h))
+    (λ h. not_zero 6 (lit≤ tt) (5, refl, lit< tt, λ d. h)) job.elems.items holds.1
 
-module _ (p : ℕ) (x y u v : Entry) (fx : FlatOrNone x.denominator) (fy : FlatOrNone y.denominator) (fu : FlatOrNone u.denominator) (fv : FlatOrNone v.denominator)
-    (rx : ¬ IsOverZero p x) (ry : ¬ IsOverZero p y) (ru : ¬ IsOverZero p u) (rv : ¬ IsOverZero p v) where
-  four_fractions : (rs : List RawElem) → AllZip (IsElement p) (x ∷ y ∷ u ∷ v ∷ []) rs → (length rs ≡ 4) × All (IsFraction (prime_elements p)) rs
-  four_fractions [] h = absurd h
-  four_fractions (a ∷ []) h = absurd h.1
-  four_fractions (a ∷ b ∷ []) h = absurd h.1.1
-  four_fractions (a ∷ b ∷ c ∷ []) h = absurd h.1.1.1
-  four_fractions (a ∷ b ∷ c ∷ d ∷ []) h = (refl, each)
-    where
-      each : All (IsFraction (prime_elements p)) (a ∷ b ∷ c ∷ d ∷ [])
-      each zero e l = fraction p x a fx h.0 rx
-      each (suc zero) e l = fraction p y b fy h.1.0 ry
-      each (suc (suc zero)) e l = fraction p u c fu h.1.1.0 ru
-      each (suc (suc (suc zero))) e l = fraction p v d fv h.1.1.1.0 rv
-      each (suc (suc (suc (suc k)))) e l = absurd (omega (arith, l))
-  four_fractions (a ∷ b ∷ c ∷ d ∷ e ∷ rs) h = absurd h.1.1.1.1
-
-sound_entries : (p : ℕ) (es : List Entry) (job : Job) → number_of job.prime ≡ p → Six es
-    → HoldsEntries p es job → ((w : ℕ) → w ≤ 2 → ¬ IsEntry (LacksY p) es w) → ((w : ℕ) → 3 ≤ w → ¬ IsEntry (IsOverZero p) es w) → IsSound job
-sound_entries p es job prime (six {f = f} {g = g} {x = x} {y = y} {u = u} {v = v} fx fy fu fv) holds has_y not_zero =
-    let fractions = four_fractions p x y u v fx fy fu fv
-    (λ h. not_zero 3 (lit≤ tt) (2, refl, lit< tt, λ d. h)) (λ h. not_zero 4 (lit≤ tt) (3, refl, lit< tt, λ d. h))
-    (λ h. not_zero 5 (lit≤ tt) (4, refl, lit< tt, λ d. h)) (λ h. not_zero 6 (lit≤ tt) (5, refl, lit< tt, λ d. h)) job.elems.items holds.1 in
-    subst (λ q. IsSoundOver (prime_elements q) job) (sym prime) (record {
-      first = holds.0.first.plane;
-      first_has_y = equation_has_y p f job.first holds.0.first (λ h. has_y 1 (lit≤ tt) (0, refl, lit< tt, λ d. h));
-      second = holds.0.second.plane;
-      second_has_y = equation_has_y p g job.second holds.0.second (λ h. has_y 2 (lit≤ tt) (1, refl, lit< tt, λ d. h));
-      four = fractions.0;
-      fractions = fractions.1;
-    })
-
--- The job of a text without a fault has two equations with y and four fractions.
-pub job_sound : (bytes : List ℕ) (v : Text) (job : Job) → Derives mode.Check bytes v → Answers v (Ok job) → IsSound job
-job_sound bytes v job derives answers =
-    sound_entries v.number v.entries job answers.0.prime (six_entries derives) answers.0.entries
-    (λ w le h. answers.1 (fault.NoY w) (le, h)) (λ w le h. answers.1 (fault.ZeroDenominator w) (le, h))
+-- The job of a text without a fault has two equations and four fractions.
+pub job_sound : (bytes : List ℕ) (v : Text) (job : Job) → Derives mode.Check bytes v
+    → Answers v (Ok job) → HasEquations job → IsSound job
+job_sound bytes v job derives answers equations =
+    let h = fractions_of_six v.number v.entries job (six_entries derives) answers.0.entries
+    (λ w le h. answers.1 (fault.ZeroDenominator w) (le, h)) in
+    record {
+      equations = equations;
+      four = h.0;
+      fractions = subst (λ q. All (IsFraction (prime_elements q)) job.elems.items)
+          (sym answers.0.prime) h.1;
+    }

@@ -1,3 +1,4 @@
+-- What was taken from a source, the job of a text, its faults, its verdict, and the ends of a run.
 pub mod Taken
 pub mod Jobs
 pub mod Faults

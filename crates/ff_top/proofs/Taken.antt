@@ -1,14 +1,22 @@
 -- What was taken from a source.
-use Rattle.std.proofs.Common.{◌≡◌, ◌≤◌, ℕ, List, length, take, drop, ◌++◌, Some, None, Ok, Err, OnErr, Result, sym, ◌∙◌, ap, Option}
+use Rattle.std.proofs.Common.{◌≡◌, ◌≤◌, ℕ, List, length, take, drop, ◌++◌, Some, None, Ok, Err}
+use Rattle.std.proofs.Common.{OnErr, Result, sym, ◌∙◌, ap, Option}
 use Rattle.std.proofs.lemmas.List.{take-append-drop}
 use Rattle.std.specs.Io.KnownBytes.{Consumes}
 use Rattle.ff_io.specs.Bytes.{TakesSome, TakesUpTo}
 
 -- what is taken up to a limit is some bytes from the front
-pub takes_some : (limit : ℕ) (old new : Option (List ℕ)) (bytes : List ℕ) → TakesUpTo limit old new bytes → length bytes ≤ limit → TakesSome limit old new
+pub takes_some : (limit : ℕ) (old new : Option (List ℕ)) (bytes : List ℕ)
+    → TakesUpTo limit old new bytes → length bytes ≤ limit → TakesSome limit old new
 takes_some limit None new bytes h l = (bytes, l, tt)
 takes_some limit (Some old) None bytes h l = absurd h
-takes_some limit (Some old) (Some new) bytes h l = (bytes, l, sym (take-append-drop limit old) ∙ ap (λ t. t ++ drop limit old) (sym h.0) ∙ ap (λ t. bytes ++ t) (sym h.1))
+takes_some limit (Some old) (Some new) bytes h
+    l = (
+      bytes,
+      l,
+      sym (take-append-drop limit old) ∙ ap (λ t. t ++ drop limit old) (sym h.0)
+          ∙ ap (λ t. bytes ++ t) (sym h.1),
+    )
 
 -- what holds in any case holds at an error
 pub on_err : {T E : Type 0} (result : Result T E) (P : Type 0) → P → OnErr result P

@@ -1,7 +1,8 @@
 -- The exit numbers of the statuses.
 use Rattle.std.specs.Prelude.{ℕ}
 use Rattle.ff_top.specs.declared.status.Status.{Status}
-use Rattle.ff_top.specs.declared.status.Status.TheVariants.{Done, BadInput, Premise, Limit, ReadFault, WriteFault, NoMemory, Usage}
+use Rattle.ff_top.specs.declared.status.Status.TheVariants.{Done, BadInput, Premise, Limit}
+use Rattle.ff_top.specs.declared.status.Status.TheVariants.{ReadFault, WriteFault, NoMemory, Usage}
 
 abbrev pub exit_of : Status → ℕ
 exit_of Done = 0

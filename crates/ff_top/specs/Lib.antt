@@ -1,5 +1,7 @@
--- The words, the texts and the answers of a run.
+-- What a run reads, answers and writes: the words, the exit numbers, what is answered to the bytes
+-- of an input, the verdict of `check`, and whole runs.
 pub mod Words
 pub mod Exits
+pub mod Input
 pub mod Check
 pub mod Run

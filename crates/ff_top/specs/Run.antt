@@ -1,48 +1,88 @@
 -- What a run reads, answers and writes.
-use Rattle.std.specs.Prelude.{◌≡◌, ◌<◌, ◌⊎◌, ℕ, List, length, Option}
+use Rattle.std.specs.Prelude.{◌≡◌, ◌+◌, ◌<◌, ◌⊎◌, ℕ, List, length, Option}
 use Rattle.std.specs.Io.KnownBytes.{Appends, IsAtEnd}
 use Rattle.ff_io.specs.Bytes.{AppendsProperPrefix, TakesSome, TakesUpTo}
+use Rattle.ff_text.specs.declared.job.TheConstants.{MAX_BYTES}
+use Rattle.ff_text.specs.declared.layout.Mode.{Mode}
+use Rattle.ff_text.specs.declared.layout.Mode.TheVariants as mode
+use Rattle.ff_text.specs.Grammar.{Text}
 use Rattle.ff_top.specs.declared.status.Status.{Status}
-use Rattle.ff_top.specs.declared.status.Status.TheVariants.{Done, BadInput, Premise, Limit, ReadFault, WriteFault, NoMemory, Usage}
-use Rattle.ff_top.specs.Words.{IsCheck, usage_text, read_fault_text}
-use Rattle.ff_top.specs.Check.{IsCheckAnswer}
+use Rattle.ff_top.specs.declared.status.Status.TheVariants.{ReadFault, WriteFault, NoMemory, Usage}
+use Rattle.ff_top.specs.Words.{IsCommand, HasCommand, usage_text, read_fault_text}
+use Rattle.ff_top.specs.Input.{IsInputAnswer}
+use Rattle.ff_top.specs.Check.{IsJudged}
 
--- the words are no form, and nothing was read
-pub record AnswersUsage (words : List (List ℕ)) (old new : Option (List ℕ)) (status : Status) (text : List ℕ) : Type 0 where
-  pub no_form : ¬ IsCheck words
+-- the most bytes that a run takes from its source
+abbrev pub read_limit : ℕ
+read_limit = MAX_BYTES + 1
+
+-- what a command says of a text without a fault: the counter `tests` before and after, the status
+-- and the text that it answers
+abbrev pub Judges : Mode → Text → ℕ → ℕ → Status → List ℕ → Type 0
+Judges mode.Check v before after status text = IsJudged v before after status text
+Judges _ v before after status text = ⊥
+
+-- the words are no command, and nothing was read
+pub record AnswersUsage (words : List (List ℕ)) (old new : Option (List ℕ))
+    (before after : ℕ) (status : Status) (text : List ℕ) : Type 0 where
+  pub no_command : ¬ HasCommand words
   pub unread : new ≡ old
+  pub unticked : after ≡ before
   pub status_is : status ≡ Usage
   pub text_is : text ≡ usage_text
 
 -- the source failed after a part of its bytes
-pub record AnswersReadFault (old new : Option (List ℕ)) (rose : Type 0) (status : Status) (text : List ℕ) : Type 0 where
+pub record AnswersReadFault (old new : Option (List ℕ)) (rose : Type 0)
+    (before after : ℕ) (status : Status) (text : List ℕ) : Type 0 where
   pub cause : rose
-  pub taken : TakesSome 65537 old new
+  pub taken : TakesSome read_limit old new
+  pub unticked : after ≡ before
   pub status_is : status ≡ ReadFault
   pub text_is : text ≡ read_fault_text
 
--- the bytes of the source were taken, or its first 65,537 where it held more than 65,536, and they are answered
-pub record AnswersBytes (old new : Option (List ℕ)) (status : Status) (text : List ℕ) : Type 0 where
+-- The bytes of the source were taken, or as many as the limit where it held more, and they are
+-- answered.
+pub record AnswersBytes (mode : Mode) (old new : Option (List ℕ))
+    (before after : ℕ) (status : Status) (text : List ℕ) : Type 0 where
   pub bytes : List ℕ
-  pub taken : TakesUpTo 65537 old new bytes
-  pub end : length bytes < 65537 → IsAtEnd new
-  pub answer : IsCheckAnswer bytes status text
+  pub taken : TakesUpTo read_limit old new bytes
+  pub end : length bytes < read_limit → IsAtEnd new
+  pub answer : IsInputAnswer mode (Judges mode) bytes before after status text
 
--- an answer of a form that reads, where the source had `old` left before and has `new` now
-abbrev pub IsReadAnswer : Option (List ℕ) → Option (List ℕ) → Type 0 → Status → List ℕ → Type 0
-IsReadAnswer old new rose status text = AnswersReadFault old new rose status text ⊎ AnswersBytes old new status text
+-- An answer of a command that reads. The source had `old` left before and has `new` now, and its
+-- count of faults rose where `rose` holds.
+abbrev pub IsReadAnswer : Mode → Option (List ℕ) → Option (List ℕ) → Type 0
+    → ℕ → ℕ → Status → List ℕ → Type 0
+IsReadAnswer mode old new rose before after status text =
+    AnswersReadFault old new rose before after status text
+    ⊎ AnswersBytes mode old new before after status text
 
--- a status and a text that a run of these words answers
-abbrev pub IsAnswer : List (List ℕ) → Option (List ℕ) → Option (List ℕ) → Type 0 → Status → List ℕ → Type 0
-IsAnswer words old new rose status text = AnswersUsage words old new status text ⊎ (IsCheck words × IsReadAnswer old new rose status text)
+-- the words are a command, and this is an answer of it
+pub record AnswersCommand (words : List (List ℕ)) (old new : Option (List ℕ)) (rose : Type 0)
+    (before after : ℕ) (status : Status) (text : List ℕ) : Type 0 where
+  pub mode : Mode
+  pub command : IsCommand words mode
+  pub answer : IsReadAnswer mode old new rose before after status text
 
--- what was written at the end of a run: nothing for want of memory, the whole text of an answer,
--- or a part of one from its front on where the sink failed
-abbrev pub Writes : (Status → List ℕ → Type 0) → Option (List ℕ) → Option (List ℕ) → Status → Type 0
+-- what a run of these words may answer: the counter `tests` before and after, a status and a text
+abbrev pub IsAnswer : List (List ℕ) → Option (List ℕ) → Option (List ℕ) → Type 0
+    → ℕ → ℕ → Status → List ℕ → Type 0
+IsAnswer words old new rose before after status text =
+    AnswersUsage words old new before after status text
+    ⊎ AnswersCommand words old new rose before after status text
+
+-- What was written at the end of a run: nothing where memory ran out, the whole text of an answer,
+-- or a proper prefix of one where the sink failed.
+abbrev pub Writes : (Status → List ℕ → Type 0) → Option (List ℕ) → Option (List ℕ)
+    → Status → Type 0
 Writes answers old new NoMemory = new ≡ old
-Writes answers old new WriteFault = (status : Status) × (text : List ℕ) × answers status text × AppendsProperPrefix old new text
+Writes answers old new WriteFault =
+    (status : Status) × (text : List ℕ) × answers status text × AppendsProperPrefix old new text
 Writes answers old new status = (text : List ℕ) × answers status text × Appends old new text
 
--- the end of a run that has a status and a text: the whole text was written, or the sink failed after a part of it
+-- The end of a run that has a status and a text: the whole text was written, or the sink failed
+-- after a part of it.
 abbrev pub Ends : Status → List ℕ → Option (List ℕ) → Option (List ℕ) → Status → Type 0
-Ends status text old new result = ((result ≡ status) × Appends old new text) ⊎ ((result ≡ WriteFault) × AppendsProperPrefix old new text)
+Ends status text old new result =
+    ((result ≡ status) × Appends old new text)
+    ⊎ ((result ≡ WriteFault) × AppendsProperPrefix old new text)

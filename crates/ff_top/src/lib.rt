@@ -2,6 +2,7 @@
 #![tactic(auto)]
 
 mod check;
+mod input;
 mod status;
 mod top;
 mod word;

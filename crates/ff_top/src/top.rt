@@ -2,24 +2,24 @@
 ghost use Rattle.std.specs.Prelude.{◌≡◌, ◌≢◌, ◌≤◌, ◌↔◌, ◌⊎◌, map, IfOk, OnErr, IsTrue};
 ghost use Rattle.ff_io.specs.Bytes.{TakesSome};
 ghost use Rattle.ff_io.specs.Causes.{Rose};
-ghost use Rattle.ff_top.specs.Check.{Counts};
-ghost use Rattle.ff_top.specs.Words.{IsCheck};
-ghost use Rattle.ff_top.specs.Run.{Ends, IsAnswer, IsReadAnswer, Writes};
+ghost use Rattle.ff_top.specs.Input.{RisesOnceAtMost};
+ghost use Rattle.ff_top.specs.Words.{HasCommand, IsCommand};
+ghost use Rattle.ff_top.specs.Run.{Ends, IsAnswer, IsReadAnswer, Writes, read_limit};
 
-use crate::check::{Answer, answer_of};
+use crate::input::{Answer, answer_of};
 use crate::{Status, Word};
 use ff_alg::{NoMemory, Steps};
 use ff_io::{Failed, ReadStop, Sink, Source, read_up_to, write_all};
+use ff_text::{MAX_BYTES, Mode};
 use std::alloc::Global;
 use std::sync::ledger::Ledger;
 
-// The most bytes that an input may have.
-const LIMIT: usize = 65536;
-
-/// Does all that the program does: reads the words, then the source where the form asks for it,
+/// Does all that the program does: reads the words, then the source where the command asks for it,
 /// computes the whole text of the answer, writes it to the sink and answers the status.
 ///
-/// The form is `check`. Other words are answered by the usage text, with nothing read.
+/// The command is the one word `check`. Other words are answered by the usage text, with nothing
+/// read. `tests` is ticked once for a verdict, written or not, and for no other answer. Where the
+/// answer is `NoMemory`, nothing was written.
 pub fn run<S: Source, T: Sink, L: Ledger, M: Ledger>(
     alloc: Global,
     words: &[Word],
@@ -28,39 +28,44 @@ pub fn run<S: Source, T: Sink, L: Ledger, M: Ledger>(
     tests: &mut Steps<L>,
     nodes: &mut Steps<M>,
 ) -> Status
-    // What was read, answered and written.
-    ensures writes { Writes (IsAnswer (map (λ w. w.text) words.now) (S.left source.old) (S.left source.new) (Rose (S.faults source.old) (S.faults source.new))) (T.written sink.old) (T.written sink.new) result }
-    ensures lost { result ≡ Status.NoMemory → TakesSome 65537 (S.left source.old) (S.left source.new) }
+    // What was read, counted, answered and written.
+    ensures writes { let words = map (λ w. w.text) words.now in
+        let rose = Rose (S.faults source.old) (S.faults source.new) in
+        let answers = IsAnswer words (S.left source.old) (S.left source.new) rose in
+        Writes (answers tests.old tests.new) (T.written sink.old) (T.written sink.new) result }
+    ensures lost { let taken = TakesSome read_limit (S.left source.old) (S.left source.new) in
+        result ≡ Status.NoMemory → taken }
+    ensures tests { RisesOnceAtMost tests.old tests.new }
+    ensures nodes { nodes.new ≡ nodes.old }
 
-    // Other words than a form are answered without reading and without memory.
-    ensures unread { ¬ IsCheck (map (λ w. w.text) words.now) → source.new ≡ source.old }
-    ensures usage { ¬ IsCheck (map (λ w. w.text) words.now) → (result ≡ Status.Usage) ⊎ (result ≡ Status.WriteFault) }
+    // Words that are no command are answered without reading and without memory.
+    ensures unread { let words = map (λ w. w.text) words.now in
+        ¬ HasCommand words → source.new ≡ source.old }
+    ensures usage { let words = map (λ w. w.text) words.now in
+        ¬ HasCommand words → (result ≡ Status.Usage) ⊎ (result ≡ Status.WriteFault) }
 
     // Faults have their causes, and their counts do not fall.
     ensures source_later { S.faults source.old ≤ S.faults source.new }
     ensures sink_later { T.faults sink.old ≤ T.faults sink.new }
-    ensures read_fault { result ≡ Status.ReadFault → Rose (S.faults source.old) (S.faults source.new) }
-    ensures write_fault { result ≡ Status.WriteFault → Rose (T.faults sink.old) (T.faults sink.new) }
-
-    ensures tests { Counts tests.old tests.new result }
-    ensures nodes { nodes.new ≡ nodes.old }
+    ensures read_fault { let rose = Rose (S.faults source.old) (S.faults source.new) in
+        result ≡ Status.ReadFault → rose }
+    ensures write_fault { let rose = Rose (T.faults sink.old) (T.faults sink.new) in
+        result ≡ Status.WriteFault → rose }
 {
     if !is_check(words) {
-        return written(
-            sink,
-            Status::Usage,
-            "usage: iso | aut | check | order | make N\n".as_bytes(),
-        );
+        let usage = "usage: iso | aut | check | order | make N\n".as_bytes();
+        return write_text(sink, Status::Usage, usage);
     }
-    match read(alloc, source, tests) {
-        Ok(found) => written(sink, found.status, &found.text),
+    match answer_to(alloc, source, tests) {
+        Ok(answer) => write_text(sink, answer.status, &answer.text),
         Err(NoMemory) => Status::NoMemory,
     }
 }
 
 // Whether the words are the one word `check`.
 fn is_check(words: &[Word]) -> bool
-    ensures { IsTrue result ↔ IsCheck (map (λ w. w.text) words.now) }
+    ensures { let words = map (λ w. w.text) words.now in
+        IsTrue result ↔ IsCommand words Mode.Check }
 {
     match words {
         [word] => word.is("check"),
@@ -68,19 +73,20 @@ fn is_check(words: &[Word]) -> bool
     }
 }
 
-// Reads the source, and computes the answer to what it gave.
-fn read<S: Source, L: Ledger>(
+// Reads the source, and computes the answer of `check` to what it gave.
+fn answer_to<S: Source, L: Ledger>(
     alloc: Global,
     source: &mut S,
     tests: &mut Steps<L>,
 ) -> Result<Answer, NoMemory>
     ensures later { S.faults source.old ≤ S.faults source.new }
-    ensures answer { IfOk result (λ a. IsReadAnswer (S.left source.old) (S.left source.new) (Rose (S.faults source.old) (S.faults source.new)) a.status a.text.items) }
-    ensures lost { OnErr result (TakesSome 65537 (S.left source.old) (S.left source.new)) }
-    ensures tests { IfOk result (λ a. Counts tests.old tests.new a.status) }
-    ensures lost_tests { OnErr result (Counts tests.old tests.new Status.NoMemory) }
+    ensures answer { let rose = Rose (S.faults source.old) (S.faults source.new) in
+        let answers = IsReadAnswer Mode.Check (S.left source.old) (S.left source.new) rose in
+        IfOk result (λ a. answers tests.old tests.new a.status a.text.items) }
+    ensures lost { OnErr result (TakesSome read_limit (S.left source.old) (S.left source.new)) }
+    ensures tests { RisesOnceAtMost tests.old tests.new }
 {
-    match read_up_to(alloc, source, LIMIT + 1) {
+    match read_up_to(alloc, source, MAX_BYTES + 1) {
         Ok(bytes) => answer_of(alloc, &bytes, tests),
         Err(ReadStop::Fault) => {
             let text = "read fault\n".as_bytes().to_vec(alloc)?;
@@ -94,7 +100,7 @@ fn read<S: Source, L: Ledger>(
 }
 
 // Writes a text, and answers its status, or that of a sink that failed.
-fn written<T: Sink>(sink: &mut T, status: Status, text: &[u8]) -> Status
+fn write_text<T: Sink>(sink: &mut T, status: Status, text: &[u8]) -> Status
     ensures later { T.faults sink.old ≤ T.faults sink.new }
     ensures ends { Ends status text.now (T.written sink.old) (T.written sink.new) result }
     ensures cause { result ≢ status → Rose (T.faults sink.old) (T.faults sink.new) }

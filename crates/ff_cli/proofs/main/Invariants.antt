@@ -1,7 +1,8 @@
+-- The ledgers of the counters.
 use Rattle.ff_cli.proofs.main.Given as goal
 
-abbrev pub ghosts-counted-L-Ledger : goal.ghosts-counted-L-Ledger
-ghosts-counted-L-Ledger a = record { name = a.tests.name; parts = a.tests.parts }
+abbrev pub ghosts-run_with_counters-L-Ledger : goal.ghosts-run_with_counters-L-Ledger
+ghosts-run_with_counters-L-Ledger a = record { name = a.tests.name; parts = a.tests.parts }
 
-abbrev pub ghosts-counted-M-Ledger : goal.ghosts-counted-M-Ledger
-ghosts-counted-M-Ledger a = record { name = a.nodes.name; parts = a.nodes.parts }
+abbrev pub ghosts-run_with_counters-M-Ledger : goal.ghosts-run_with_counters-M-Ledger
+ghosts-run_with_counters-M-Ledger a = record { name = a.nodes.name; parts = a.nodes.parts }

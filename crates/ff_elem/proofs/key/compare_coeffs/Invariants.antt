@@ -6,7 +6,8 @@ invariant-loop-i g l =
     let K = g.K.Ring.elements l.k in
     record {
       inside : l.i ≤ length l.a;
-      same : reverse (map (λ c. K.place (K.value c)) (drop l.i l.a)) ≡ reverse (map (λ c. K.place (K.value c)) (drop l.i l.b));
+      same : reverse (map (λ c. K.index (K.value c)) (drop l.i l.a))
+          ≡ reverse (map (λ c. K.index (K.value c)) (drop l.i l.b));
     }
 
 abbrev pub decreases-loop-i : goal.decreases-loop-i

@@ -6,7 +6,8 @@ invariant-loop-i g l =
     let K = g.K.Ring.elements l.k in
     record {
       inside : l.i ≤ length l.coeffs;
-      key : l.key.items ≡ l.fn.key.items ++ (length l.coeffs ∷ reverse (map (λ c. K.place (K.value c)) (drop l.i l.coeffs)));
+      key : l.key.items ≡ l.fn.key.items ++
+          (length l.coeffs ∷ reverse (map (λ c. K.index (K.value c)) (drop l.i l.coeffs)));
     }
 
 abbrev pub decreases-loop-i : goal.decreases-loop-i

@@ -2,7 +2,7 @@ use Rattle.std.proofs.Common.{vec_len, ◌-◌, ◌≤◌}
 use Rattle.std.specs.Io.KnownBytes.{Consumes}
 use Rattle.ff_io.proofs.stream.read_up_to.Given as goal
 
--- what was taken so far came from the front of the source, and is within the limit
+-- what was taken so far is a prefix of the source's bytes, and is within the limit
 abbrev pub invariant-loop-chunk : goal.invariant-loop-chunk
 invariant-loop-chunk g l =
     (vec_len l.taken ≤ l.limit)

@@ -1,4 +1,4 @@
-use Rattle.std.proofs.Common.{length, map, Vec, Global}
+use Rattle.std.proofs.Common.{ℕ, length, map, Vec, Global}
 use Rattle.std.proofs.lemmas.List.{length-map}
 use Rattle.ff_lin.specs.Space.{HasExactly, IsOrthogonal}
 use Rattle.ff_lin.specs.Kernel.{IsSolvedBy}
@@ -9,9 +9,11 @@ use Rattle.ff_lin.proofs.Space.kernel.Goals as goal
 pub returns-clause-exact : goal.returns-clause-exact
 returns-clause-exact g c =
     let K = g.K.Ring.elements c.args.k.now in
-    let items : Vec g.row.E.Denot Global → _ = λ v. v.items in
+    let items : Vec ℕ Global → _ = λ v. v.items in
     let rows = map items c.args.rows.now in
     let s = c.in_ok-equations.equations in
     ok_map (IsSolvedBy K s) (λ t. HasExactly K t (IsOrthogonal K c.args.n rows)) c.solutions.result
-    (kernel_code K (g.met.K.Ring.laws c.args.k.now) s c.args.n (length c.args.rows.now) rows c.in_ok-equations.ensures.len (length-map c.args.rows.now items) c.in_ok-equations.ensures.same)
+    (kernel_code K (g.met.K.Ring.laws c.args.k.now) s c.args.n (length c.args.rows.now) rows
+    c.in_ok-equations.ensures.space.len (length-map c.args.rows.now items)
+    c.in_ok-equations.ensures.same)
     c.solutions.ensures.exact

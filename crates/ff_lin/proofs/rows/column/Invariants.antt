@@ -2,7 +2,8 @@ use Rattle.std.proofs.Common.{◌≡◌, ℕ, ◌<◌, ◌-◌, [], length, map,
 use Rattle.ff_lin.proofs.rows.column.Given as goal
 
 abbrev pub invariant-loop-i : goal.invariant-loop-i
-invariant-loop-i g l = record {
+invariant-loop-i l = record {
   len : length l.column.items ≡ l.i;
-  value : (i : ℕ) (d : g.row.E.Denot) → i < l.i → get_or l.column.items i d ≡ get_or (get_or (map (λ v. v.items) l.rows) (length l.rows - 1 - i) []) l.j d;
+  value : (i : ℕ) (d : ℕ) → i < l.i → get_or l.column.items i d
+      ≡ get_or (get_or (map (λ v. v.items) l.rows) (length l.rows - 1 - i) []) l.j d;
 }

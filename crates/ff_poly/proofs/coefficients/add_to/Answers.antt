@@ -1,11 +1,11 @@
-use Rattle.std.proofs.Common.{◌≡◌, ◌+◌, ◌<◌, length, map, refl, sym, ◌∙◌, ap, arith}
+use Rattle.std.proofs.Common.{◌≡◌, ◌+◌, ◌<◌, length, map, refl, sym, ◌∙◌, ap, arith, get_or}
 use Rattle.std.proofs.lemmas.List.Elements.{All-set}
 use Rattle.std.proofs.lemmas.List.{length-set}
 use Rattle.ff_theory.specs.Ring.{IsElement}
 use Rattle.ff_theory.specs.Poly.{coeff}
 use Rattle.ff_theory.proofs.Coeffs.{coeff-past, add_by_coeffs}
 use Rattle.ff_theory.proofs.InPlace.{written-below, written-above, written}
-use Rattle.ff_poly.proofs.Words.{entry}
+use Rattle.ff_theory.proofs.Values.{entry_at}
 use Rattle.ff_poly.proofs.coefficients.add_to.Goals as goal
 
 pub loop-i-preserved : goal.loop-i-preserved
@@ -16,8 +16,8 @@ loop-i-preserved g c =
     let b = map K.value c.args.b.now in
     let bound : i < length c.loop-i.sum = omega (arith, c.loop-i.invariant.len) in
     let v : K.value c.add.result ≡ K.add (coeff K.ring old i) (coeff K.ring b i) =
-    c.add.ensures.value ∙ ap (λ t. K.add t (K.value c.index-b-i.result)) (entry K c.loop-i.sum i c.index-sum-i.result bound c.index-sum-i.is ∙ c.loop-i.invariant.above i (omega arith))
-    ∙ ap (K.add (coeff K.ring old i)) (entry K c.args.b.now i c.index-b-i.result (omega arith) c.index-b-i.is)
+    c.add.ensures.value ∙ ap (λ t. K.add t (K.value (get_or c.args.b.now i 0))) (entry_at K c.loop-i.sum i 0 bound ∙ c.loop-i.invariant.above i (omega arith))
+    ∙ ap (K.add (coeff K.ring old i)) (entry_at K c.args.b.now i 0 (omega arith))
     in
     record {
       len = length-set c.loop-i.sum i c.add.result ∙ c.loop-i.invariant.len;

@@ -4,7 +4,7 @@ use Rattle.std.proofs.lemmas.List.{length-set}
 use Rattle.ff_theory.specs.Ring.{IsElement}
 use Rattle.ff_theory.specs.Poly.{coeff}
 use Rattle.ff_theory.proofs.InPlace.{written-below, written-above, written}
-use Rattle.ff_poly.proofs.Words.{entry}
+use Rattle.ff_theory.proofs.Values.{entry_at}
 use Rattle.ff_poly.proofs.Negative.{neg_by_coeffs, neg-past}
 use Rattle.ff_poly.proofs.coefficients.negate.Goals as goal
 
@@ -15,7 +15,7 @@ loop-i-preserved g c =
     let old = map K.value c.args.list.now in
     let bound : i < length c.loop-i.list = omega (arith, c.loop-i.invariant.len) in
     let v : K.value c.neg.result ≡ K.neg (coeff K.ring old i) =
-    c.neg.ensures.value ∙ ap K.neg (entry K c.loop-i.list i c.index-list-i.result bound c.index-list-i.is ∙ c.loop-i.invariant.above i (omega arith))
+    c.neg.ensures.value ∙ ap K.neg (entry_at K c.loop-i.list i 0 bound ∙ c.loop-i.invariant.above i (omega arith))
     in
     record {
       len = length-set c.loop-i.list i c.neg.result ∙ c.loop-i.invariant.len;

@@ -1,8 +1,8 @@
 use Rattle.std.proofs.Common.{◌≡◌, ◌+◌, length, map, take, drop, All}
 use Rattle.ff_theory.specs.Ring.{IsElement}
 use Rattle.ff_theory.specs.Poly.{poly, polynomials}
-use Rattle.ff_poly.specs.Words.{poly_of}
-use Rattle.ff_poly.specs.Monomial.{raised}
+use Rattle.ff_theory.specs.Values.{poly_of}
+use Rattle.ff_theory.specs.Monomial.{raised}
 use Rattle.ff_poly.proofs.division.divide_row.Given as goal
 
 abbrev pub invariant-loop-at : goal.invariant-loop-at

@@ -1,7 +1,7 @@
 use Rattle.std.proofs.Common.{length}
 use Rattle.ff_theory.specs.Poly.{Poly, polynomials}
-use Rattle.ff_poly.specs.Words.{poly_of, IsPoly}
-use Rattle.ff_poly.specs.Divisors.{IsGcd}
+use Rattle.ff_theory.specs.Values.{poly_of, IsPoly}
+use Rattle.ff_theory.specs.Divides.{IsGcd}
 use Rattle.ff_poly.proofs.divisors.common_divisor.Given as goal
 
 -- a greatest common divisor of the present two is one of the first two

@@ -1,11 +1,11 @@
-use Rattle.std.proofs.Common.{◌≡◌, ◌+◌, List, length, sym, ◌∙◌, ap, subst, arith}
+use Rattle.std.proofs.Common.{◌≡◌, ◌+◌, List, length, sym, ◌∙◌, ap, subst, arith, ℕ}
 use Rattle.ff_theory.specs.Lawful.{lawful_field}
 use Rattle.ff_theory.specs.Poly.{coeff, Poly, polynomials}
 use Rattle.ff_theory.proofs.Poly.{polynomial_laws}
 use Rattle.ff_theory.proofs.Coeffs.{coeff-map}
 use Rattle.ff_theory.proofs.QuotientUnits.{unit_poly}
-use Rattle.ff_poly.specs.Words.{poly_of, IsPoly}
-use Rattle.ff_poly.specs.Divisors.{polys_of, IsGcd, IsGcdOfAll}
+use Rattle.ff_theory.specs.Values.{poly_of, IsPoly, polys_of}
+use Rattle.ff_theory.specs.Divides.{IsGcd, IsGcdOfAll}
 use Rattle.ff_poly.proofs.LongDivision.{poly-size}
 use Rattle.ff_poly.proofs.Gcd.{gcds-start, gcds-step, gcds-stop}
 use Rattle.ff_poly.proofs.lowest.divisor_of_all.Goals as goal
@@ -15,8 +15,8 @@ loop-num-init g c =
     let K = g.K.Ring.elements c.args.k.now in
     let laws = polynomial_laws K.ring (g.met.K.Ring.laws c.args.k.now) (g.met.K.Ring.tests c.args.k.now) in
     record {
-      poly = subst (λ (p : List g.row.E.Denot). IsPoly K p) (sym c.in_ok-divisor.ensures) c.requires.den;
-      gcd = subst (λ (p : List g.row.E.Denot). IsGcdOfAll (polynomials K.ring) (poly_of K c.args.den.now) (polys_of K c.args.nums.now) 0 (poly_of K p)) (sym c.in_ok-divisor.ensures) (gcds-start (polynomials K.ring) laws (poly_of K c.args.den.now) (polys_of K c.args.nums.now));
+      poly = subst (λ (p : List ℕ). IsPoly K p) (sym c.in_ok-divisor.ensures) c.requires.den;
+      gcd = subst (λ (p : List ℕ). IsGcdOfAll (polynomials K.ring) (poly_of K c.args.den.now) (polys_of K c.args.nums.now) 0 (poly_of K p)) (sym c.in_ok-divisor.ensures) (gcds-start (polynomials K.ring) laws (poly_of K c.args.den.now) (polys_of K c.args.nums.now));
     }
 
 pub loop-num-preserved : goal.loop-num-preserved

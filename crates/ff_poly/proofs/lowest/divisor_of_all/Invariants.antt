@@ -1,6 +1,6 @@
 use Rattle.ff_theory.specs.Poly.{polynomials}
-use Rattle.ff_poly.specs.Words.{poly_of, IsPoly}
-use Rattle.ff_poly.specs.Divisors.{polys_of, IsGcdOfAll}
+use Rattle.ff_theory.specs.Values.{poly_of, IsPoly, polys_of}
+use Rattle.ff_theory.specs.Divides.{IsGcdOfAll}
 use Rattle.ff_poly.proofs.lowest.divisor_of_all.Given as goal
 
 abbrev pub invariant-loop-num : goal.invariant-loop-num

@@ -1,6 +1,5 @@
 use Rattle.std.proofs.Common.{◌≡◌, take, All}
-use Rattle.ff_poly.specs.Words.{poly_of, IsPoly}
-use Rattle.ff_poly.specs.Divisors.{polys_of, products_with}
+use Rattle.ff_theory.specs.Values.{poly_of, IsPoly, polys_of, products_with}
 use Rattle.ff_poly.proofs.lowest.quotients.Given as goal
 
 abbrev pub invariant-loop-p : goal.invariant-loop-p

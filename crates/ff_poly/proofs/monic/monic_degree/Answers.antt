@@ -1,8 +1,8 @@
 use Rattle.std.proofs.Common.{◌≡◌, ◌+◌, ◌-◌, ◌*◌, [], length, get_or, suc, max, cond, nat_eq, refl, ◌∙◌, ap, ap₂, arith}
 use Rattle.std.proofs.lemmas.List.{get_or_default}
-use Rattle.ff_poly.proofs.Rows.{item-length, ord_max-max}
+use Rattle.ff_poly.proofs.RowLists.{item-length, ord_max-max}
 use Rattle.ff_poly.proofs.PseudoDivision.{last_row}
-use Rattle.ff_poly.proofs.MonicForm.{greatest, row_degree_of, rows_degree, rows_bound}
+use Rattle.ff_poly.proofs.MonicForm.{greatest, row_degree_of, rows_degree}
 use Rattle.ff_poly.proofs.monic.monic_degree.Goals as goal
 
 pub overflow_sub-lead : goal.overflow_sub-lead
@@ -31,8 +31,8 @@ loop-i-preserved g c =
     let degree : c.row_degree.result ≡ row_degree_of rows n m i = c.row_degree.ensures ∙ ap (λ p. cond (nat_eq (length p) 0) 0 (length p - 1 + (n - 1 - i) * m)) row in
     c.max-degree.ensures ∙ ord_max-max c.loop-i.degree c.row_degree.result ∙ ap₂ max c.loop-i.invariant degree ∙ (let e : suc i ≡ i + 1 = omega arith in ap (λ k. greatest k (row_degree_of rows n m)) e)
 
-pub returns-clause-degree : goal.returns-clause-degree
-returns-clause-degree g c =
+pub returns : goal.returns
+returns g c =
     let K = g.K.Ring.elements c.args.k.now in
     let laws = g.met.K.Ring.laws c.args.k.now in
     let tests = g.met.K.Ring.tests c.args.k.now in
@@ -41,13 +41,4 @@ returns-clause-degree g c =
     let last = last_row K laws tests rows c.index-rows-n.result c.requires.plane (omega (arith, c.requires.has_y)) c.index-rows-n.is in
     let end : c.loop-i.i ≡ n = omega arith in
     rows_degree K laws tests (g.met.K.Field.is_field c.args.k.now) rows n (length c.coeffs.result.now - 1) c.loop-i.degree c.coeffs.result.now c.requires.plane (omega (arith, c.requires.has_y)) (omega (arith, last.1, ap length c.coeffs.ensures))
-    (c.coeffs.ensures ∙ c.index-rows-n.is ∙ get_or_default rows n c.index-rows-n.result [] (omega (arith, c.requires.has_y))) refl (c.loop-i.invariant ∙ ap (λ k. greatest k (row_degree_of rows n (length c.coeffs.result.now - 1))) end)
-
-pub returns-clause-bound : goal.returns-clause-bound
-returns-clause-bound g c =
-    let K = g.K.Ring.elements c.args.k.now in
-    let rows = c.args.rows.now in
-    let n = length rows - 1 in
-    let end : c.loop-i.i ≡ n = omega arith in
-    rows_bound K (g.met.K.Ring.laws c.args.k.now) (g.met.K.Ring.tests c.args.k.now) (g.met.K.Field.is_field c.args.k.now) rows n (length c.coeffs.result.now - 1) c.loop-i.degree c.coeffs.result.now (omega (arith, c.requires.has_y))
     (c.coeffs.ensures ∙ c.index-rows-n.is ∙ get_or_default rows n c.index-rows-n.result [] (omega (arith, c.requires.has_y))) refl (c.loop-i.invariant ∙ ap (λ k. greatest k (row_degree_of rows n (length c.coeffs.result.now - 1))) end)

@@ -1,13 +1,10 @@
-use Rattle.std.proofs.Common.{◌≡◌, ◌-◌, ◌*◌, ◌<◌, [], length, map, get_or, refl, sym, ◌∙◌, ap, ap₂, subst, arith, All}
-use Rattle.std.proofs.lemmas.List.{get_or_default}
+use Rattle.std.proofs.Common.{◌≡◌, ◌-◌, length, map, refl, sym, ◌∙◌, ap, ap₂, subst, arith, All}
 use Rattle.std.proofs.lemmas.List.Elements.{All-push}
 use Rattle.ff_theory.specs.Ring.{power}
 use Rattle.ff_theory.specs.Poly.{coeff, polynomials}
 use Rattle.ff_theory.proofs.Poly.{polynomial_laws, polynomial_tests}
 use Rattle.ff_theory.proofs.Coeffs.{coeff-push, coeff-map}
-use Rattle.ff_poly.specs.Words.{poly_of, IsPoly}
-use Rattle.ff_poly.proofs.Size.{poly_fits}
-use Rattle.ff_poly.proofs.PseudoDivision.{last_row}
+use Rattle.ff_theory.specs.Values.{poly_of, IsPoly}
 use Rattle.ff_poly.proofs.MonicForm.{monic_by_loop, pushed-below, pushed-at}
 use Rattle.ff_poly.proofs.monic.monic_rows.Goals as goal
 
@@ -15,27 +12,10 @@ pub monic_row-requires : goal.monic_row-requires
 monic_row-requires g c =
     let K = g.K.Ring.elements c.args.k.now in
     let rows = c.args.rows.now in
-    let n = length rows - 1 in
-    let i = c.loop-i.i in
-    let last = last_row K (g.met.K.Ring.laws c.args.k.now) (g.met.K.Ring.tests c.args.k.now) rows c.index-rows-n.result c.requires.plane (omega (arith, c.requires.has_y)) c.index-rows-n.is in
-    let row : c.index-rows-i.result ≡ get_or rows i [] = c.index-rows-i.is ∙ get_or_default rows i c.index-rows-i.result [] (omega arith) in
-    let lead : c.index-rows-n.result ≡ get_or rows n [] = c.index-rows-n.is ∙ get_or_default rows n c.index-rows-n.result [] (omega (arith, c.requires.has_y)) in
-    let item : IsPoly K c.index-rows-i.result = subst (IsPoly K) (sym c.index-rows-i.is) (c.requires.plane.each i c.index-rows-i.result (omega arith)) in
-    let narrow = λ (pos : 0 < length c.index-rows-i.result). c.requires.narrow i (omega arith) (omega (arith, pos, ap length row)) in
-    let exponent : n - 1 - i ≡ length rows - 2 - i = omega arith in (
-      poly_fits g.row.E g.met.K.Ring.small,
-      (
-        item,
-        (
-          last.0,
-          (
-            last.1,
-            λ pos. let product : (n - 1 - i) * (length c.index-rows-n.result - 1) ≡ (length rows - 2 - i) * (length (get_or rows n []) - 1) = ap₂ (λ a b. a * b) exponent (ap (λ p. length p - 1) lead) in
-                omega (arith, narrow pos, ap length row, product),
-          ),
-        ),
-      ),
-    )
+    record {
+      row = subst (IsPoly K) (sym c.index-rows-i.is) (c.requires.plane.each c.loop-i.i c.index-rows-i.result (omega arith));
+      lead = subst (IsPoly K) (sym c.index-rows-n.is) (c.requires.plane.each (length rows - 1) c.index-rows-n.result (omega (arith, c.requires.has_y)));
+    }
 
 pub loop-i-preserved : goal.loop-i-preserved
 loop-i-preserved g c =

@@ -1,7 +1,7 @@
 use Rattle.std.proofs.Common.{◌≡◌, ℕ, ◌<◌, ◌-◌, length, map, All}
 use Rattle.ff_theory.specs.Ring.{power}
 use Rattle.ff_theory.specs.Poly.{coeff, polynomials}
-use Rattle.ff_poly.specs.Words.{poly_of, IsPoly}
+use Rattle.ff_theory.specs.Values.{poly_of, IsPoly}
 use Rattle.ff_poly.proofs.monic.monic_rows.Given as goal
 
 abbrev pub invariant-loop-i : goal.invariant-loop-i

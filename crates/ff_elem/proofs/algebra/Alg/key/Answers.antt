@@ -5,4 +5,5 @@ use Rattle.ff_elem.proofs.algebra.Alg.key.Goals as goal
 pub returns : goal.returns
 returns g c =
     let K = g.K.Ring.elements c.args.self.now.k in
-    c.in_ok-push_rows.ensures ∙ ap₂ (λ s t. s ++ rows_key K t) (c.in_ok-push_poly.ensures ∙ ap (λ t. t ++ poly_key K c.args.a.now.den) c.new-key.ensures.items) c.rows.ensures
+    c.in_ok-push_rows.ensures ∙ ap₂ (λ s t. s ++ rows_key K t) (c.in_ok-push_poly.ensures ∙ ap (λ t.
+    t ++ poly_key K c.args.a.now.den) c.new-key.ensures.items) c.rows.ensures

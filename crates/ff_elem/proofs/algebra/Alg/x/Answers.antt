@@ -2,14 +2,20 @@ use Rattle.std.proofs.Common.{[], ◌∷◌, ◌∙◌, ap, ap₂}
 use Rattle.ff_theory.specs.Poly.{poly}
 use Rattle.ff_theory.proofs.Results.{ok_map}
 use Rattle.ff_elem.specs.Elem.{plane_in}
-use Rattle.ff_elem.proofs.Quotients.{over-one-value, x-rows}
+use Rattle.ff_elem.proofs.Quotients.{x-rows}
+use Rattle.ff_elem.proofs.RowLemmas.{single-polys}
 use Rattle.ff_elem.proofs.algebra.Alg.x.Goals as goal
+
+pub from_rows-requires : goal.from_rows-requires
+from_rows-requires g c = single-polys (g.K.Ring.elements c.args.self.now.k) c.in_ok-rows.rows.items
+    c.in_ok-x.x c.in_ok-rows.ensures c.in_ok-x.ensures.poly
 
 pub returns-clause-value : goal.returns-clause-value
 returns-clause-value g c =
-    let K = g.K.Ring.elements c.args.self.now.k in
+    let F = g.K.Ring.elements c.args.self.now.k in
     let L = g.K.Ring.lawful c.args.self.now.k in
     let f = c.args.self.now.f in
-    ok_map _ _ c.quotient.result
-    (λ r h. h ∙ over-one-value K L f c.deref.result.now c.in_ok-one.one c.in_ok-one.ensures.value ∙ ap (plane_in L f) (c.deref.ensures.value ∙ c.in_ok-rows.ensures)
-    ∙ x-rows K L f c.in_ok-x.x (c.in_ok-x.ensures.value ∙ ap₂ (λ a b. poly K.ring (a ∷ b ∷ [])) c.zero.ensures.value c.one-2.ensures.value)) c.quotient.ensures.value
+    ok_map _ _ c.from_rows.result
+    (λ r h. h ∙ ap (plane_in L f) c.in_ok-rows.ensures
+    ∙ x-rows F L f c.in_ok-x.x (c.in_ok-x.ensures.value ∙ ap₂ (λ a b. poly F.ring (a ∷ b ∷ []))
+    c.zero.ensures.value c.one.ensures.value)) c.from_rows.ensures.value

@@ -1,13 +1,18 @@
 use Rattle.std.proofs.Common.{◌∙◌, ap}
 use Rattle.ff_theory.proofs.Results.{ok_map}
 use Rattle.ff_elem.specs.Elem.{plane_in}
-use Rattle.ff_elem.proofs.Quotients.{over-one-value, zero-rows}
+use Rattle.ff_elem.proofs.Quotients.{zero-rows}
+use Rattle.ff_elem.proofs.RowLemmas.{no-polys}
 use Rattle.ff_elem.proofs.algebra.Alg.zero.Goals as goal
+
+pub from_rows-requires : goal.from_rows-requires
+from_rows-requires g c = no-polys (g.K.Ring.elements c.args.self.now.k) c.new.result.items
+    c.new.ensures.items
 
 pub returns-clause-value : goal.returns-clause-value
 returns-clause-value g c =
-    let K = g.K.Ring.elements c.args.self.now.k in
+    let F = g.K.Ring.elements c.args.self.now.k in
     let L = g.K.Ring.lawful c.args.self.now.k in
     let f = c.args.self.now.f in
-    ok_map _ _ c.quotient.result
-    (λ r h. h ∙ over-one-value K L f c.deref.result.now c.in_ok-one.one c.in_ok-one.ensures.value ∙ ap (plane_in L f) (c.deref.ensures.value ∙ c.new-rows.ensures.items) ∙ zero-rows K L f) c.quotient.ensures.value
+    ok_map _ _ c.from_rows.result (λ r h. h ∙ ap (plane_in L f) c.new.ensures.items ∙ zero-rows F L
+    f) c.from_rows.ensures.value

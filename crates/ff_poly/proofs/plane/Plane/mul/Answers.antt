@@ -1,7 +1,6 @@
-use Rattle.std.proofs.Common.{sym, ◌∙◌, ap, ap₂, subst, All, length, arith}
+use Rattle.std.proofs.Common.{sym, ◌∙◌, ap₂, subst, All}
 use Rattle.ff_theory.specs.Poly.{polynomials}
-use Rattle.ff_poly.specs.Words.{IsPoly, plane_of, x_size}
-use Rattle.ff_poly.proofs.Size.{poly_fits}
+use Rattle.ff_theory.specs.Values.{IsPoly, plane_of}
 use Rattle.ff_poly.proofs.plane.Plane.mul.Goals as goal
 
 pub products-requires : goal.products-requires
@@ -9,13 +8,16 @@ products-requires g c =
     let K = g.K.Ring.elements c.args.k.now in
     let a = c.deref.ensures.value ∙ c.self.view_is in
     let b = c.deref-2.ensures.value ∙ c.b.view_is in
-    (poly_fits g.row.E g.met.K.Ring.small, (subst (All (λ p. IsPoly K p)) (sym a) c.requires.a.each, (subst (All (λ p. IsPoly K p)) (sym b) c.requires.b.each, (omega (arith, ap length a, ap length b, c.requires.rows), omega (arith, ap x_size a, ap x_size b, c.requires.columns)))))
+    record {
+      a = subst (All (λ p. IsPoly K p)) (sym a) c.requires.a.each;
+      b = subst (All (λ p. IsPoly K p)) (sym b) c.requires.b.each;
+    }
 
-pub trimmed-requires : goal.trimmed-requires
-trimmed-requires g c = (poly_fits g.row.E g.met.K.Ring.small, c.in_ok-products.ensures.each)
+pub from_vec-requires : goal.from_vec-requires
+from_vec-requires g c = c.in_ok-products.ensures.each
 
 pub returns-clause-value : goal.returns-clause-value
 returns-clause-value g c =
     let K = g.K.Ring.elements c.args.k.now in
-    c.trimmed.ensures.value ∙ c.in_ok-products.ensures.value
+    c.from_vec.ensures.value ∙ c.in_ok-products.ensures.value
     ∙ ap₂ (λ p q. (polynomials (polynomials K.ring)).mul (plane_of K p) (plane_of K q)) (c.deref.ensures.value ∙ c.self.view_is) (c.deref-2.ensures.value ∙ c.b.view_is)

@@ -1,5 +1,6 @@
 use Rattle.std.proofs.Common.{◌≡◌, ◌∙◌, ap, subst, arith}
-use Rattle.ff_poly.specs.Words.{poly_of, plane_of, IsPseudoDivision}
+use Rattle.ff_theory.specs.Values.{poly_of, plane_of}
+use Rattle.ff_theory.specs.Planes.{IsPseudoDivision}
 use Rattle.ff_poly.proofs.PseudoDivision.{pseudo_start, pseudo_next, product_nonzero}
 use Rattle.ff_poly.proofs.plane.Plane.reduce.Goals as goal
 

@@ -1,5 +1,6 @@
 use Rattle.std.proofs.Common.{◌<◌, length}
-use Rattle.ff_poly.specs.Words.{poly_of, plane_of, IsPoly, IsPlane, IsPseudoDivision}
+use Rattle.ff_theory.specs.Values.{poly_of, plane_of, IsPoly, IsPlane}
+use Rattle.ff_theory.specs.Planes.{IsPseudoDivision}
 use Rattle.ff_poly.proofs.plane.Plane.reduce.Given as goal
 
 abbrev pub invariant-reduce : goal.invariant-reduce

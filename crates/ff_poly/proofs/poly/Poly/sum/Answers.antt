@@ -1,7 +1,7 @@
 use Rattle.std.proofs.Common.{◌≡◌, ◌∙◌}
 use Rattle.ff_theory.specs.Poly.{polynomials}
 use Rattle.ff_theory.proofs.Poly.{polynomial_laws}
-use Rattle.ff_poly.specs.Words.{poly_of}
+use Rattle.ff_theory.specs.Values.{poly_of}
 use Rattle.ff_theory.proofs.Results.{ok_map}
 use Rattle.ff_poly.proofs.poly.Poly.sum.Goals as goal
 

@@ -2,7 +2,7 @@ use Rattle.std.proofs.Common.{map, sym, ◌∙◌, ap, subst, arith, All}
 use Rattle.std.proofs.lemmas.List.Elements.{All-push}
 use Rattle.ff_theory.specs.Ring.{IsElement}
 use Rattle.ff_theory.specs.Poly.{coeff}
-use Rattle.ff_poly.proofs.Product.{zeros-push, zeros_poly}
+use Rattle.ff_theory.proofs.Product.{zeros-push, zeros_poly}
 use Rattle.ff_poly.proofs.poly.Poly.zeros.Goals as goal
 
 pub loop-i-preserved : goal.loop-i-preserved

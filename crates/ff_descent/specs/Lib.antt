@@ -1,0 +1,2 @@
+-- The levels of the descent, and their residues
+pub mod Descent

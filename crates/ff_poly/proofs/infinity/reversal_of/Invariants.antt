@@ -1,0 +1,13 @@
+use Rattle.std.proofs.Common.{◌≡◌, ℕ, ◌-◌, ◌<◌, length, map, All}
+use Rattle.ff_theory.specs.Ring.{IsElement}
+use Rattle.ff_theory.specs.Poly.{coeff}
+use Rattle.ff_poly.proofs.infinity.reversal_of.Given as goal
+
+abbrev pub invariant-loop-j : goal.invariant-loop-j
+invariant-loop-j g l =
+    let K = g.K.Ring.elements l.k in
+    record {
+      len : length l.list.items ≡ l.j;
+      each : All (IsElement K) l.list.items;
+      entries : (i : ℕ) → i < l.j → coeff K.ring (map K.value l.list.items) i ≡ coeff K.ring (map K.value l.p) (l.m - i);
+    }

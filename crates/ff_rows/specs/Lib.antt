@@ -1,0 +1,2 @@
+-- What a table of rows counts.
+pub mod Rows

@@ -1,0 +1,42 @@
+use Rattle.std.proofs.Common.{◌≤◌, length, ap, subst, arith, inr}
+use Rattle.ff_theory.proofs.Results.{ok_map}
+use Rattle.ff_io.specs.Bytes.{TakesSome}
+use Rattle.ff_io.specs.Causes.{Rose}
+use Rattle.ff_text.specs.declared.layout.Mode.TheVariants as mode
+use Rattle.ff_top.specs.Check.{IsJudged}
+use Rattle.ff_top.specs.Input.{IsInputAnswer}
+use Rattle.ff_top.specs.Run.{IsReadAnswer, read_limit}
+use Rattle.ff_top.proofs.Taken.{takes_some, on_err}
+use Rattle.ff_top.proofs.top.answer_to.Goals as goal
+
+pub returns-in-Ok-clause-answer : goal.returns-in-Ok-clause-answer
+returns-in-Ok-clause-answer g c =
+    let old = g.S.Source.left c.args.source.now in
+    let new = g.S.Source.left c.read_up_to.new.source in
+    let rose = Rose (g.S.Source.faults c.args.source.now)
+    (g.S.Source.faults c.read_up_to.new.source) in
+    let bytes = c.in-Ok.bytes.items in
+    let before = c.args.tests.now in
+    let after = c.answer_of.new.tests in
+    ok_map (λ a. IsInputAnswer mode.Check IsJudged c.deref.result.now before after
+    a.status a.text.items)
+    (λ a. IsReadAnswer mode.Check old new rose before after a.status a.text.items)
+    c.answer_of.result (λ a h. inr (record {
+      bytes = bytes;
+      taken = c.in-Ok.ensures.bytes;
+      end = λ short. c.in-Ok.ensures.end
+          (omega (arith, ap length c.deref.ensures.value, c.deref.ensures.len, short));
+      answer = subst
+          (λ bs. IsInputAnswer mode.Check IsJudged bs before after a.status a.text.items)
+          c.deref.ensures.value h;
+    })) c.answer_of.ensures.answer
+
+pub returns-in-Ok-clause-lost : goal.returns-in-Ok-clause-lost
+returns-in-Ok-clause-lost g c =
+    let old = g.S.Source.left c.args.source.now in
+    let new = g.S.Source.left c.read_up_to.new.source in
+    let bytes = c.in-Ok.bytes.items in
+    let short : length bytes ≤ read_limit =
+    omega (arith, ap length c.deref.ensures.value, c.deref.ensures.len, c.in-Ok.ensures.bound) in
+    on_err c.answer_of.result (TakesSome read_limit old new)
+    (takes_some read_limit old new bytes c.in-Ok.ensures.bytes short)
