@@ -1,10 +1,10 @@
 -- What is known of the job of a text of `check`.
-use Rattle.std.proofs.Common.{◌≡◌, ℕ, zero, suc, ◌+◌, ◌%◌, ◌<◌, ◌≤◌, Bool, true, false, eqb, ◌&&◌}
+use Rattle.std.proofs.Common.{◌≡◌, ℕ, zero, suc, ◌%◌, ◌<◌, ◌≤◌, Bool, true, false, eqb, ◌&&◌}
 use Rattle.std.proofs.Common.{cond, List, [], ◌∷◌, length, get_or, Option, Some, None, Ok, refl}
 use Rattle.std.proofs.Common.{sym, ap, subst, ◌∙◌, arith, lit<, lit≤, ⊎_elim}
 use Rattle.std.specs.List.{sum_by, AllZip, All}
 use Rattle.std.proofs.lemmas.Bool.{cases_lt, ne_eqb}
-use Rattle.std.proofs.lemmas.List.{nil_from_length, get_or_past}
+use Rattle.std.proofs.lemmas.List.{nil_from_length}
 use Rattle.std.proofs.lemmas.List.Sums.{sum_by-cons}
 use Rattle.std.proofs.Math.Nat.{zero-mod}
 use Rattle.ff_theory.specs.PrimeTable.{prime_elements}
@@ -20,10 +20,9 @@ use Rattle.ff_text.specs.Grammar.{monomial, Factor, Product, SignedTerms, Polyno
 use Rattle.ff_text.specs.Grammar.{Lines, IsText, Term, Entry, Text, Derives, lines_of}
 use Rattle.ff_text.specs.Reading.{reduced_term}
 use Rattle.ff_text.specs.Sums.{share, total}
-use Rattle.ff_text.specs.Values.{terms_of, terms_or_one, denominator_of, numerator_of, IsZero}
+use Rattle.ff_text.specs.Values.{terms_of, terms_or_one, denominator_of, IsZero}
 use Rattle.ff_text.specs.Values.{IsOverZero, IsEntry, IsElement, HasEquations, HoldsEntries}
 use Rattle.ff_text.specs.Values.{Answers}
-use Rattle.ff_prime.specs.Number.{number_of}
 use Rattle.ff_top.specs.Check.{IsFraction, IsSound}
 
 -- ---- No y stands in a denominator

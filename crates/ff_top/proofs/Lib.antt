@@ -2,5 +2,6 @@
 pub mod Taken
 pub mod Jobs
 pub mod Faults
+pub mod Laws
 pub mod Verdicts
 pub mod Endings

@@ -1,8 +1,7 @@
 -- What was taken from a source.
-use Rattle.std.proofs.Common.{◌≡◌, ◌≤◌, ℕ, List, length, take, drop, ◌++◌, Some, None, Ok, Err}
+use Rattle.std.proofs.Common.{◌≤◌, ℕ, List, length, drop, ◌++◌, Some, None, Ok, Err}
 use Rattle.std.proofs.Common.{OnErr, Result, sym, ◌∙◌, ap, Option}
 use Rattle.std.proofs.lemmas.List.{take-append-drop}
-use Rattle.std.specs.Io.KnownBytes.{Consumes}
 use Rattle.ff_io.specs.Bytes.{TakesSome, TakesUpTo}
 
 -- what is taken up to a limit is some bytes from the front

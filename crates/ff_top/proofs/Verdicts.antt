@@ -4,13 +4,13 @@ use Rattle.std.proofs.Common.{subst, arith}
 use Rattle.ff_prime.specs.declared.prime.Prime.{Prime}
 use Rattle.ff_text.specs.declared.job.TheConstants.{MAX_BYTES}
 use Rattle.ff_text.specs.declared.layout.Mode.TheVariants as mode
-use Rattle.ff_text.specs.declared.job.RawElem.{RawElem}
 use Rattle.ff_text.specs.declared.job.Job.{Job}
 use Rattle.ff_text.specs.Grammar.{Text, Derives}
 use Rattle.ff_text.specs.Values.{Answers}
 use Rattle.ff_top.specs.declared.status.Status.{Status}
 use Rattle.ff_top.specs.declared.status.Status.TheVariants.{Done}
-use Rattle.ff_top.specs.Check.{laws_of, verdict_text, TestsPairs, IsVerdict, IsJudged}
+use Rattle.ff_top.specs.Check.{verdict_text, TestsPairs, IsVerdict, IsJudged}
+use Rattle.ff_top.proofs.Laws.{laws_of}
 use Rattle.ff_top.specs.Input.{HoldsForText, IsInputAnswer}
 
 -- four entries
@@ -29,7 +29,14 @@ pub verdict : (job : Job) (k : Prime) (f g : List (List ℕ)) (answer : Bool) (t
     → TestsPairs (laws_of k) f g job.elems.items answer → text ≡ verdict_text answer
     → IsVerdict job text
 verdict job k f g answer text e1 e2 e3 h t =
-    record { answer = answer; tests = tests; text_is = t }
+    record {
+      ring = (laws_of job.prime).laws;
+      tested = (laws_of job.prime).tests;
+      finite = (laws_of job.prime).finite;
+      answer = answer;
+      tests = tests;
+      text_is = t;
+    }
   where
     tests : TestsPairs (laws_of job.prime) job.first job.second job.elems.items answer
     tests = subst (λ p. TestsPairs (laws_of p) job.first job.second job.elems.items answer) e1

@@ -2,10 +2,9 @@
 use Rattle.std.specs.Prelude.{◌≡◌, ◌+◌, ◌<◌, ◌↔◌, ℕ, IsTrue, Bool, true, false, List, [], ◌∷◌}
 use Rattle.std.specs.Prelude.{length, codes}
 use Rattle.std.specs.List.{All}
-use Rattle.ff_theory.specs.Ring.{Elements}
+use Rattle.ff_theory.specs.Ring.{Elements, IsCommRing, IsTested, IsFiniteField}
 use Rattle.ff_theory.specs.Lawful.{Lawful}
 use Rattle.ff_theory.specs.PrimeTable.{prime_elements}
-use Rattle.ff_theory.proofs.Prime.{prime_ring_laws, prime_tests, prime_laws}
 use Rattle.ff_prime.specs.declared.prime.Prime.{Prime}
 use Rattle.ff_prime.specs.Number.{number_of}
 use Rattle.ff_theory.specs.Values.{IsPoly, IsPlane}
@@ -21,13 +20,9 @@ use Rattle.ff_top.specs.declared.status.Status.{Status}
 use Rattle.ff_top.specs.declared.status.Status.TheVariants.{Done}
 use Rattle.ff_top.specs.Words.{line}
 
--- the laws of a prime field
-abbrev pub laws_of : (k : Prime) → Lawful (prime_elements (number_of k))
-laws_of k = record {
-  laws = prime_ring_laws (number_of k) k.known;
-  tests = prime_tests (number_of k);
-  finite = prime_laws (number_of k) k.known;
-}
+-- the field of the residues modulo a prime of the table
+abbrev pub field_of : Prime → Elements ℕ
+field_of k = prime_elements (number_of k)
 
 -- the pair of E(g) that two fractions are
 pub record IsPairOf {K : Elements ℕ} (L : Lawful K)
@@ -56,10 +51,16 @@ pub record TestsPairs {K : Elements ℕ} (L : Lawful K)
   pub is_back : IsPairOf L f u v back
   pub inverse : IsTrue answer ↔ IsInversePair L f g pair back
 
--- the text says whether the pairs of the job are inverse
+-- The residues modulo the prime of the job are a finite field, and the text says whether the pairs
+-- of the job, over that field, are inverse.
 pub record IsVerdict (job : Job) (text : List ℕ) : Type 0 where
+  pub ring : IsCommRing (field_of job.prime).ring
+  pub tested : IsTested (field_of job.prime).ring
+  pub finite : IsFiniteField (field_of job.prime).field
   pub answer : Bool
-  pub tests : TestsPairs (laws_of job.prime) job.first job.second job.elems.items answer
+  pub tests : TestsPairs {K = field_of job.prime}
+      (record { laws = ring; tests = tested; finite = finite })
+      job.first job.second job.elems.items answer
   pub text_is : text ≡ verdict_text answer
 
 -- The text has no fault, and this is the verdict on its job. It ticks the counter once.

@@ -4,12 +4,12 @@ ghost use Rattle.std.specs.List.{All};
 ghost use Rattle.ff_theory.specs.PrimeTable.{prime_elements};
 ghost use Rattle.ff_prime.specs.Number.{number_of};
 ghost use Rattle.ff_top.specs.Check.{IsFraction, IsPairOf, IsSound, IsVerdict, TestsPairs};
-ghost use Rattle.ff_top.specs.Check.{laws_of, verdict_text};
+ghost use Rattle.ff_top.specs.Check.{verdict_text};
 ghost use Rattle.ff_top.specs.Input.{RisesOnceAtMost};
 
 use crate::Status;
 use crate::input::Answer;
-use ff_alg::{NoMemory, Steps};
+use ff_alg::{NoMemory, Ring, Steps};
 use ff_data::Pair;
 use ff_elem::Alg;
 use ff_prime::Prime;
@@ -44,7 +44,7 @@ fn are_inverse<L: Ledger>(
     requires four { length elems.now ≡ 4 }
     requires fractions { let F = prime_elements (number_of second.now.k) in
         All (IsFraction F) elems.now }
-    ensures answer { let L = laws_of second.now.k in
+    ensures answer { let L = ⟦<Prime as Ring>⟧.lawful second.now.k in
         IfOk result (TestsPairs L first.now.f second.now.f elems.now) }
     ensures ticked { IfOk result (λ _. tests.new ≡ tests.old + 1) }
     ensures tests { RisesOnceAtMost tests.old tests.new }
@@ -58,7 +58,8 @@ fn are_inverse<L: Ledger>(
 fn pair_of(alloc: Global, alg: &Alg<Prime>, x: &RawElem, y: &RawElem) -> Result<Pair, NoMemory>
     requires x { IsFraction (prime_elements (number_of alg.now.k)) x.now }
     requires y { IsFraction (prime_elements (number_of alg.now.k)) y.now }
-    ensures { IfOk result (IsPairOf (laws_of alg.now.k) alg.now.f x.now y.now) }
+    ensures { let L = ⟦<Prime as Ring>⟧.lawful alg.now.k in
+        IfOk result (IsPairOf L alg.now.f x.now y.now) }
 {
     let x = alg.from_parts(alloc, &x.num, &x.den)?;
     let y = alg.from_parts(alloc, &y.num, &y.den)?;

@@ -2,7 +2,8 @@ use Rattle.std.proofs.Common.{◌↔◌, IsTrue, subst}
 use Rattle.ff_theory.proofs.Results.{ok_map}
 use Rattle.ff_prime.specs.declared.prime.Prime.{Prime}
 use Rattle.ff_data.specs.Pairs.{IsInversePair}
-use Rattle.ff_top.specs.Check.{IsPairOf, TestsPairs, laws_of}
+use Rattle.ff_top.specs.Check.{IsPairOf, TestsPairs}
+use Rattle.ff_top.proofs.Laws.{laws_of}
 use Rattle.ff_top.proofs.Verdicts.{four_is}
 use Rattle.ff_top.proofs.check.are_inverse.Goals as goal
 

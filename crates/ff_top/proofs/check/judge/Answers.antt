@@ -1,6 +1,7 @@
 use Rattle.ff_theory.proofs.Results.{ok_map}
 use Rattle.std.proofs.Common.{◌≡◌, subst}
-use Rattle.ff_top.specs.Check.{IsVerdict, TestsPairs, laws_of, verdict_text}
+use Rattle.ff_top.specs.Check.{IsVerdict, TestsPairs, verdict_text}
+use Rattle.ff_top.proofs.Laws.{laws_of}
 use Rattle.ff_top.proofs.Verdicts.{verdict}
 use Rattle.ff_top.proofs.check.judge.Goals as goal
 

@@ -1,4 +1,4 @@
-use Rattle.std.proofs.Common.{◌≡◌, ◌+◌, Result}
+use Rattle.std.proofs.Common.{◌≡◌, ◌+◌}
 use Rattle.ff_text.specs.declared.layout.Mode.TheVariants as mode
 use Rattle.ff_top.specs.declared.status.Status.TheVariants.{Done}
 use Rattle.ff_top.specs.Check.{IsVerdict, IsJudged}
