@@ -25,7 +25,9 @@ fi
 if cc -O2 -o "$work/flint" "$top/bench/poly/flint.c" -lflint 2> "$work/cc"; then
     "$work/flint" > "$work/flints"
     echo 'call coefficients microseconds flint_microseconds ratio'
-    paste -d ' ' "$work/ours" "$work/flints" | awk '{ printf "%s %s %.2f %.2f %.1f\n", $1, $2, $4 / $3 / 1e3, $8 / $7 / 1e3, ($4 / $3) / ($8 / $7) }'
+    paste -d ' ' "$work/ours" "$work/flints" |
+        awk '{ printf "%s %s %.2f %.2f %.1f\n",
+            $1, $2, $4 / $3 / 1e3, $8 / $7 / 1e3, ($4 / $3) / ($8 / $7) }'
 else
     echo 'call coefficients microseconds (FLINT is not installed)'
     awk '{ printf "%s %s %.2f\n", $1, $2, $4 / $3 / 1e3 }' "$work/ours"

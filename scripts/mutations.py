@@ -1,7 +1,7 @@
 #!/usr/bin/env python3
 """Runs the proved program on every prefix of the examples and on 10,000 mutated inputs.
 
-It demands a named answer each time: one of the texts of `check`, with its exit status.
+It demands a named answer each time: one of the texts of the command, with its exit status.
 Where an answer names the place of a syntax fault, it demands more: the place is within the input,
 and the same input cut there, or one byte after it, tells of the same place or goes on.
 Seeds are fixed. Usage, after ./ff prove: scripts/mutations.py [NUMBER]. Needs Python 3.8.
@@ -18,8 +18,7 @@ PROGRAM = subprocess.run([TOP / "ff", "where"], capture_output=True, text=True).
 if not PROGRAM:
     sys.exit("there is no proved program: call ./ff prove")
 ALPHABET = b"0123456789xyXYUVpfg+-*^()/ \t\r\n" + bytes([0, 33, 65, 122, 200, 255])
-ANSWERS = [
-    (0, re.compile(rb"(yes|no)\n")),
+FAULTS = [
     (1, re.compile(rb"bad input: syntax at [0-9]+\n")),
     (1, re.compile(rb"bad input: p is not in the table\n")),
     (1, re.compile(rb"bad input: equation [12] has no y\n")),
@@ -27,10 +26,21 @@ ANSWERS = [
     (3, re.compile(rb"limit: degree of (equation [12]|[XYUV])\n")),
     (3, re.compile(rb"limit: input longer than 65536 bytes\n")),
 ]
+POLY = rb"[0-9xy^*+]+"
+ELEM = rb"(?:%b|\(%b\)/\([0-9x^*+]+\))" % (POLY, POLY)
+ANSWERS = {
+    "check": [*FAULTS, (0, re.compile(rb"(yes|no)\n"))],
+    "order": [
+        *FAULTS,
+        (0, re.compile(rb"finite: [0-9]+\n(?:%b\n)*infinite: [0-9]+\n(?:%b\n)*" % (ELEM, ELEM))),
+        (2, re.compile(rb"premise: equation 1 is inseparable in y\n")),
+        (2, re.compile(rb"premise: equation 1 is reducible: \(%b\)\*\(%b\)\n" % (POLY, POLY))),
+    ],
+}
 
 
-def run(data):
-    done = subprocess.run([PROGRAM, "check"], input=data, capture_output=True, timeout=60)
+def run(form, data):
+    done = subprocess.run([PROGRAM, form], input=data, capture_output=True, timeout=60)
     return done.returncode, done.stdout, done.stderr
 
 
@@ -39,10 +49,12 @@ def place(text):
     return int(found.group(1)) if found else None
 
 
-def complaint(data):
+def complaint(case):
     """What is wrong with the answer to an input, or None."""
-    status, text, errors = run(data)
-    if errors or not any(status == wanted and form.fullmatch(text) for wanted, form in ANSWERS):
+    form, data = case
+    status, text, errors = run(form, data)
+    answers = ANSWERS[form]
+    if errors or not any(status == wanted and it.fullmatch(text) for wanted, it in answers):
         return f"status {status}, answer {text!r}, errors {errors!r}"
     at = place(text)
     if at is None:
@@ -50,17 +62,19 @@ def complaint(data):
     if at > len(data):
         return f"place {at} is past the end"
     # Some text begins with the first `at` bytes, so what is wrong with them is at most their end.
-    prefix = place(run(data[:at])[1])
+    prefix = place(run(form, data[:at])[1])
     if prefix is not None and prefix != at:
         return f"the first {at} bytes are refused at {prefix}"
     # No text begins with one byte more.
-    if at < len(data) and place(run(data[: at + 1])[1]) != at:
+    if at < len(data) and place(run(form, data[: at + 1])[1]) != at:
         return f"the first {at + 1} bytes are not refused at {at}"
     return None
 
 
-def mutated(source, texts):
-    data = bytearray(source.choice(texts))
+def mutated(source, cases):
+    form, text = source.choice(cases)
+    texts = [text for _, text in cases]
+    data = bytearray(text)
     for _ in range(source.randint(1, 4)):
         at = source.randrange(len(data) + 1)
         kind = source.randrange(4)
@@ -74,22 +88,23 @@ def mutated(source, texts):
             other = source.choice(texts)
             start = source.randrange(len(other))
             data[at:at] = other[start : start + source.randint(1, 12)]
-    return bytes(data)
+    return form, bytes(data)
 
 
 def main():
     number = int(sys.argv[1]) if len(sys.argv) > 1 else 10000
-    texts = [path.read_bytes() for path in sorted((TOP / "examples").glob("check*.txt"))]
+    paths = sorted((TOP / "examples").glob("*.txt"))
+    cases = [(re.split("[-.]", path.name)[0], path.read_bytes()) for path in paths]
     source = random.Random(20261201)
-    inputs = [text[:n] for text in texts for n in range(len(text) + 1)]
+    inputs = [(form, text[:n]) for form, text in cases for n in range(len(text) + 1)]
     prefixes = len(inputs)
-    inputs += [mutated(source, texts) for _ in range(number)]
+    inputs += [mutated(source, cases) for _ in range(number)]
     wrong = 0
     with ThreadPoolExecutor(4) as pool:
-        for data, trouble in zip(inputs, pool.map(complaint, inputs)):
+        for (form, data), trouble in zip(inputs, pool.map(complaint, inputs)):
             if trouble:
                 wrong += 1
-                print(f"{data!r}: {trouble}")
+                print(f"{form} {data!r}: {trouble}")
     print(f"{prefixes} prefixes and {number} mutated inputs: {wrong} without a named answer")
     sys.exit(1 if wrong else 0)
 

@@ -9,8 +9,10 @@ work=$(mktemp -d)
 trap 'rm -rf "$work"' EXIT
 cc -shared -fPIC -O1 -o "$work/refuse.so" "$top/scripts/refused_memory/refuse.c" -ldl || exit 1
 wrong=0
-for input in "$top"/examples/check*.txt; do
-    wanted=$("$program" check < "$input")
+for input in "$top"/examples/*.txt; do
+    name=$(basename "$input" .txt)
+    form=${name%%-*}
+    wanted=$("$program" "$form" < "$input")
     status=$?
     refused=0
     number=0
@@ -19,7 +21,7 @@ for input in "$top"/examples/check*.txt; do
     while [ "$same" -lt 10 ]; do
         number=$((number + 1))
         text=$(REFUSE=$number LD_PRELOAD="$work/refuse.so" \
-            "$program" check < "$input" 2> "$work/errors")
+            "$program" "$form" < "$input" 2> "$work/errors")
         code=$?
         if [ "$code" = 6 ] && [ -z "$text" ] && [ ! -s "$work/errors" ]; then
             refused=$((refused + 1))

@@ -1,11 +1,14 @@
 #!/usr/bin/env python3
 """Writes the inputs of bench/check.sh into the folder that is named.
 
-Eight are for the time of `check`, and one long text is for that of the reader.
+Eight are for the time of `check`, one long text is for that of the reader, and those of
+adversarial.py were made to be slow.
 """
 import random
 import sys
 from pathlib import Path
+
+import adversarial
 
 
 def written(terms):
@@ -94,6 +97,7 @@ def main():
         "8-fractions": text(97, "y-x", "y-x", fraction[0], fraction[0], fraction[1], fraction[1]),
         "9-sixth-powers": text(97, "y^6-x", "y^6-x", *sixth[0], *sixth[1]),
     }
+    inputs |= adversarial.inputs(source)
     for name, data in inputs.items():
         assert len(data) <= 65536, (name, len(data))
         (folder / name).write_text(data)

@@ -21,9 +21,11 @@ use Rattle.ff_theory.proofs.PolyMap.{polynomial_domain, not_same, same_false, si
 use Rattle.ff_theory.proofs.PolyMap.{one_size}
 use Rattle.ff_theory.proofs.QuotientUnits.{unit_poly}
 use Rattle.ff_theory.specs.Planes.{planes, Plane, row_of}
-use Rattle.ff_theory.specs.Algebra.{proper, degree, algebra_of, value_of, inverse_of, constant, x_of, y_of, Form}
+use Rattle.ff_theory.specs.Algebra.{proper, degree, algebra_of, value_of, inverse_of, constant}
+use Rattle.ff_theory.specs.Algebra.{x_of, y_of, Form}
 use Rattle.ff_theory.proofs.Proper.{proper_is, proper_size}
-use Rattle.ff_theory.proofs.Element.{low_value, row_inverse, algebra_is_ring, value_at_xy, form, element_clear}
+use Rattle.ff_theory.proofs.Element.{low_value, row_inverse, algebra_is_ring, value_at_xy, form}
+use Rattle.ff_theory.proofs.Element.{element_clear}
 use Rattle.ff_theory.proofs.Element.{lowest_nonzero, cancel_row}
 use Rattle.ff_theory.proofs.Element.{equation}
 use Rattle.ff_theory.proofs.Constants.{constant_map}
@@ -315,7 +317,8 @@ module _ (K : Field) (f : Plane K) (n : ℕ) (has : size (polynomials K.ring) f 
           ≡ degree K f = eqb-true (length s.nums) (degree K f) s.lowest.count in omega
           (arith, p, q, degree_is)
 
-  constant_unit : (s : Poly K.ring) → size K.ring s ≡ 1 → (m : Poly K.ring) → IsCoprime (polynomials K.ring) s m
+  constant_unit : (s : Poly K.ring) → size K.ring s ≡ 1 → (m : Poly K.ring)
+      → IsCoprime (polynomials K.ring) s m
   constant_unit s e m = record {
     u = (unit_poly K s e).0;
     v = D.zero;

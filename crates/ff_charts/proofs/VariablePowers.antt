@@ -102,7 +102,8 @@ module _ (K : Field) where
           ∙ cons K.ring K.laws K.tests c p
 
   -- what is coprime to a and to b is coprime to a * b
-  pub coprime_product : (s a b : Poly K.ring) → IsCoprime (polynomials K.ring) s a → IsCoprime (polynomials K.ring) s b
+  pub coprime_product : (s a b : Poly K.ring) → IsCoprime (polynomials K.ring) s a
+      → IsCoprime (polynomials K.ring) s b
       → IsCoprime (polynomials K.ring) s ((polynomials K.ring).mul a b)
   coprime_product s a b p q = record {
     u = D.add (D.mul p.u (D.add (D.mul q.u s) (D.mul q.v b))) (D.mul (D.mul p.v a) q.u);

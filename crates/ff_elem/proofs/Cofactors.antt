@@ -179,7 +179,8 @@ module _ (K : Elements ℕ) (L : Lawful K) where
               end.planes.value in omega (arith, e, end.has_y))
               (let e : size D.ring s ≡ length last.factor = plane-size K L last.factor
               end.end.planes.factor in omega (arith, e, factor-has-y));
-          divides = crossed_divides F (plane_of K f) r P.zero s crossed (plane_of K a.num) pg.content
+          divides = crossed_divides F (plane_of K f) r P.zero s crossed (plane_of K a.num)
+              pg.content
               (plane_of K g) f-some s-some product-zero pg.primitive;
         }
           where

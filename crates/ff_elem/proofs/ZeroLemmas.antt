@@ -69,7 +69,8 @@ module _ (R : RingOps) (laws : IsCommRing R) (tests : IsTested R) {X : Type 0} (
     )
       where
         whole : new ≡ list ++ c ∷ zeros.zeros
-        whole = zeros.added ∙ ap (λ t. t ++ zeros.zeros) push ∙ append_assoc list (c ∷ []) zeros.zeros
+        whole = zeros.added ∙ ap (λ t. t ++ zeros.zeros) push
+            ∙ append_assoc list (c ∷ []) zeros.zeros
 
         count : length new ≡ p * (i + 1)
         count = let a : length new ≡ length list + suc (length zeros.zeros) = ap length whole

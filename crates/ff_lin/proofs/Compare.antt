@@ -95,8 +95,10 @@ module _ (K : Elements ℕ) (laws : IsCommRing K.ring) (tests : IsTested K.ring)
         (pivot s) hs.echelon (length t.basis) (vectors_of K t.basis) (pivot t) ht.echelon
 
     least : SameSpace K s.basis t.basis → length t.basis ≤ length s.basis
-    least h = count-most K.ring laws tests field.one_not_zero (length t.basis) (vectors_of K t.basis)
-        (pivot t) ht.echelon (length s.basis) (vectors_of K s.basis) (pivot s) hs.echelon (flipped h)
+    least h = count-most K.ring laws tests field.one_not_zero (length t.basis)
+        (vectors_of K t.basis)
+        (pivot t) ht.echelon (length s.basis) (vectors_of K s.basis) (pivot s) hs.echelon
+        (flipped h)
 
     pub same_count : ((v : ℕ → K.carrier) → InSpace K s v ↔ InSpace K t v) → length s.basis
         ≡ length t.basis
@@ -118,13 +120,15 @@ module _ (K : Elements ℕ) (laws : IsCommRing K.ring) (tests : IsTested K.ring)
       λ k. subst (λ n. InSpan K.ring n (vectors_of K t.basis) v) e
           (span-family K.ring laws (length s.basis) (vectors_of K s.basis) (vectors_of K t.basis) v
           (λ i j l. sym (h i j l)) k),
-      λ k. span-family K.ring laws (length s.basis) (vectors_of K t.basis) (vectors_of K s.basis) v h
+      λ k. span-family K.ring laws (length s.basis) (vectors_of K t.basis) (vectors_of K s.basis) v
+          h
           (subst (λ n. InSpan K.ring n (vectors_of K t.basis) v) (sym e) k),
     )
 
     -- a test of the rows is a test of the spaces, and of their data
     module _ (one_value : (a b : ℕ) → IsElement K a → IsElement K b → K.value a ≡ K.value b → a ≡ b)
-        (len : s.len ≡ t.len) {V : Type 0} (items : V → List ℕ) (a b : List V) (old_a old_b : List V)
+        (len : s.len ≡ t.len) {V : Type 0} (items : V → List ℕ) (a b : List V)
+        (old_a old_b : List V)
         (r : Bool)
         (ha : a ≡ old_a) (hb : b ≡ old_b) (basis_a : map items old_a ≡ s.basis)
         (basis_b : map items old_b ≡ t.basis) (count : length old_a ≡ length old_b)
@@ -152,7 +156,8 @@ module _ (K : Elements ℕ) (laws : IsCommRing K.ring) (tests : IsTested K.ring)
       )
 
       into : IsTrue r → (v : ℕ → K.carrier) → InSpace K s v ↔ InSpace K t v
-      into h = basis-same many (λ i j l. ap (λ q. vectors_of K q i j) (sym is_a) ∙ test.0 h i j (omega
+      into h = basis-same many (λ i j l. ap (λ q. vectors_of K q i j) (sym is_a)
+          ∙ test.0 h i j (omega
           (arith, l, length_a)) ∙ ap (λ q. vectors_of K q i j) is_b)
 
       back : ((v : ℕ → K.carrier) → InSpace K s v ↔ InSpace K t v) → IsTrue r

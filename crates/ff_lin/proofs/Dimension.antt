@@ -237,7 +237,8 @@ module _ (R : RingOps) (laws : IsCommRing R) where
                     (λ k j. v k (pz j)) (λ k l. R.zero) i l) ∙ h.sum i (omega (arith, l)))
 
                 opposite : (j : ℕ) → x j ≡ minus R.one * y j
-                opposite j = ring2 R laws (λ x y. x) (λ x y. (unit ⊗ x ⊕ y) ⊕ neg unit ⊗ y) refl (x j)
+                opposite j = ring2 R laws (λ x y. x) (λ x y. (unit ⊗ x ⊕ y) ⊕ neg unit ⊗ y) refl
+                    (x j)
                     (y j) ∙ ap (λ t. t ⊞ minus R.one * y j) (total j)
                     ∙ zero_add R laws (minus R.one * y j)
 
@@ -255,7 +256,8 @@ module _ (R : RingOps) (laws : IsCommRing R) where
                 x_zero : (j : ℕ) → x j ≡ R.zero
                 x_zero = zero-at_pivots d w pw common x x_in
                     (λ i l. sym (laws.add_zero (x (pw i)))
-                    ∙ ap (λ t. x (pw i) ⊞ t) (sym (sum-ext R laws q (λ k. c' k * R.zero) (λ k. R.zero)
+                    ∙ ap (λ t. x (pw i) ⊞ t) (sym (sum-ext R laws q (λ k. c' k * R.zero)
+                    (λ k. R.zero)
                     (λ k m. mul_zero R laws (c' k)) ∙ sum-zero R laws q))
                     ∙ sym (joined-high r q e c (λ i j. u i (pz j)) (λ i l. u i (pw l))
                     (λ k j. v k (pz j)) (λ k l. R.zero) i) ∙ h.sum (e + i) (omega (arith, l)))
@@ -325,7 +327,8 @@ module _ (R : RingOps) (laws : IsCommRing R) where
                       (span-inside R laws e right q v a' right_in
                       (record { coefficients = c; sum = λ j. refl })))
                       (λ i m. laws.add_comm (minus R.one * b (pv i)) (a' (pv i))
-                      ∙ ap (λ t. a' (pv i) ⊞ t) (sym (sum-mul R laws d (minus R.one) (λ l. c' l * w l
+                      ∙ ap (λ t. a' (pv i) ⊞ t) (sym (sum-mul R laws d (minus R.one)
+                      (λ l. c' l * w l
                       (pv i))) ∙ sum-ext R laws d (λ l. minus R.one * (c' l * w l (pv i)))
                       (λ l. c' l * minus (w l (pv i)))
                       (λ l n. ring2 R laws (λ c w. neg unit ⊗ (c ⊗ w)) (λ c w. c ⊗ neg w) refl

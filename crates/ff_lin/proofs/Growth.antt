@@ -166,7 +166,8 @@ module _ (K : Elements ℕ) (laws : IsCommRing K.ring) where
     span-inside K.ring laws (length basis) (vectors_of K basis)
         (length rows) (vectors_of K rows) (vector_of K v) h.into,
     span-inside K.ring laws
-        (length rows) (vectors_of K rows) (length basis) (vectors_of K basis) (vector_of K v) h.back,
+        (length rows) (vectors_of K rows) (length basis) (vectors_of K basis) (vector_of K v)
+        h.back,
   )
 
 -- the space with zero alone

@@ -147,7 +147,8 @@ module _ (K : Elements ℕ) (laws : IsCommRing K.ring) where
               (fresh i) (vectors_of K t.basis i) (λ j. fresh-is i j l)
               (after-in K.ring laws (length s.basis) q b p (vector_of K w) (vector_of K w)
               (suc (length s.basis)) (vectors_of K (w ∷ s.basis))
-              (span-one K.ring laws (suc (length s.basis)) (vectors_of K (w ∷ s.basis)) 0 (omega arith))
+              (span-one K.ring laws (suc (length s.basis)) (vectors_of K (w ∷ s.basis)) 0
+              (omega arith))
               (λ i m. span-one K.ring laws (suc (length s.basis)) (vectors_of K (w ∷ s.basis))
               (suc i) (omega arith)) in_rows i l);
           back = λ i l. span-family K.ring laws (suc (length s.basis)) fresh (vectors_of K t.basis)
@@ -234,9 +235,11 @@ module _ {V : Type 0} (K : Elements ℕ) (items : V → List ℕ) where
       → IsSpace K t × SameSpace K t.basis (items w ∷ s.basis)
   insert_code laws s t old new indices w wl q p space vec bound one begins zeros hold hplaces within
       lower upper hw count rows value hlen hbasis hpivots = (
-        inserted-space K laws s t (map items new) (items w) q p space vec inside bound one begins zeros
+        inserted-space K laws s t (map items new) (items w) q p space vec inside bound one begins
+            zeros
             low up cnt rws val hlen hbasis hpivots,
-        inserted-same K laws s t (map items new) (items w) q p space vec inside bound one begins zeros
+        inserted-same K laws s t (map items new) (items w) q p space vec inside bound one begins
+            zeros
             low up cnt rws val hlen hbasis hpivots,
       )
     where

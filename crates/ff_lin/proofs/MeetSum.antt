@@ -79,10 +79,12 @@ module _ (K : Elements ℕ) (laws : IsCommRing K.ring) where
             coefficients = e.coefficients;
             sum = λ j. is j ∙ sum-ext K.ring laws (length a.basis)
                 (λ i. K.mul (d i) (vectors_of K a.basis i j))
-                (λ i. K.mul (combination K.ring (length c.basis) e.coefficients (vectors_of K c.basis)
+                (λ i. K.mul (combination K.ring (length c.basis) e.coefficients
+                (vectors_of K c.basis)
                 i) (vectors_of K a.basis i j))
                 (λ i l. ap (λ t. K.mul t (vectors_of K a.basis i j)) (e.sum i))
-                ∙ combination-combination K.ring laws (length a.basis) (length c.basis) e.coefficients
+                ∙ combination-combination K.ring laws (length a.basis) (length c.basis)
+                e.coefficients
                 (vectors_of K c.basis) (vectors_of K a.basis) j;
           })
         where

@@ -48,7 +48,8 @@ module _ (K : Elements ℕ) (laws : IsCommRing K.ring) where
     solutions-exact t len same v = (
       λ h. let k : InSpan K.ring s.len (null_of K s) v = span-inside K.ring laws (length t.basis)
           (vectors_of K t.basis) s.len (null_of K s) v same.into h in (
-            (λ j l. kernel-ends K.ring laws s.len (length s.basis) (mirrored K s) mirror_pivot one_at
+            (λ j l. kernel-ends K.ring laws s.len (length s.basis) (mirrored K s) mirror_pivot
+                one_at
                 zero_at inside_at v k j (omega (arith, l, len))),
             kernel-product K.ring laws s.len
                 (length s.basis) (mirrored K s) mirror_pivot one_at zero_at inside_at v k,

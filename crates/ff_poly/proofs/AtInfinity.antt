@@ -14,15 +14,20 @@ use Rattle.ff_poly.proofs.RowLists.{row-value}
 
 module _ (R : RingOps) (laws : IsCommRing R) (tests : IsTested R) where
   pub reversal_by_loop : {A : Type 0} (f : A → R.carrier) (p q : List A) (m : ℕ) → length q ≡ suc m
-      → ((i : ℕ) → i < suc m → coeff R (map f q) i ≡ coeff R (map f p) (m - i)) → poly R (map f q) ≡ reversal R m (poly R (map f p))
+      → ((i : ℕ) → i < suc m → coeff R (map f q) i ≡ coeff R (map f p) (m - i)) → poly R (map f q)
+      ≡ reversal R m (poly R (map f p))
   unfolding reversal
-  reversal_by_loop f p q m len h = listed_by_loop R laws tests f q (suc m) (λ i. coeff R (poly R (map f p)).coeffs (m - i)) len (λ i l. h i l ∙ sym (poly-coeff R laws tests (map f p) (m - i)))
+  reversal_by_loop f p q m len h = listed_by_loop R laws tests f q (suc m)
+      (λ i. coeff R (poly R (map f p)).coeffs (m - i)) len
+      (λ i l. h i l ∙ sym (poly-coeff R laws tests (map f p) (m - i)))
 
   pub reversed_by_loop : {A : Type 0} (f : A → Poly R) (p q : List A) (n e : ℕ) → length q ≡ suc n
-      → ((i : ℕ) → i < suc n → coeff (polynomials R) (map f q) i ≡ reversal R ((n - i) * e) (coeff (polynomials R) (map f p) i))
+      → ((i : ℕ) → i < suc n → coeff (polynomials R) (map f q) i
+      ≡ reversal R ((n - i) * e) (coeff (polynomials R) (map f p) i))
       → poly (polynomials R) (map f q) ≡ reversed R n e (poly (polynomials R) (map f p))
   unfolding reversed
-  reversed_by_loop f p q n e len h = listed_by_loop P PL PT f q (suc n) (λ i. reversal R ((n - i) * e) (coeff P (poly P (map f p)).coeffs i)) len
+  reversed_by_loop f p q n e len h = listed_by_loop P PL PT f q (suc n)
+      (λ i. reversal R ((n - i) * e) (coeff P (poly P (map f p)).coeffs i)) len
       (λ i l. h i l ∙ ap (reversal R ((n - i) * e)) (sym (poly-coeff P PL PT (map f p) i)))
     where
       P : RingOps
@@ -37,14 +42,22 @@ module _ (R : RingOps) (laws : IsCommRing R) (tests : IsTested R) where
 module _ {E : Type 0} (K : Elements E) (laws : IsCommRing K.ring) (tests : IsTested K.ring) where
   -- the slope with one row more
   pub slope-step : (rows : List (List E)) (n i m : ℕ) → IsPlane K rows → i < length rows → m ≡ suc i
-      → max (slope_below K.ring n (plane_of K rows) i) (quotient_up (length (get_or rows i []) - 1) (n - i)) ≡ slope_below K.ring n (plane_of K rows) m
-  slope-step rows n i m h l e = ap (λ a. max (slope_below K.ring n (plane_of K rows) i) (quotient_up a (n - i))) degree ∙ ap (slope_below K.ring n (plane_of K rows)) (sym e)
+      → max (slope_below K.ring n (plane_of K rows) i)
+      (quotient_up (length (get_or rows i []) - 1) (n - i))
+      ≡ slope_below K.ring n (plane_of K rows) m
+  slope-step rows n i m h l e = ap (λ a. max (slope_below K.ring n (plane_of K rows) i)
+      (quotient_up a (n - i))) degree ∙ ap (slope_below K.ring n (plane_of K rows)) (sym e)
     where
       P : RingOps
       P = polynomials K.ring
 
       row : coeff P (plane_of K rows).coeffs i ≡ poly_of K (get_or rows i [])
-      row = poly-coeff P (polynomial_laws K.ring laws tests) (polynomial_tests K.ring laws tests) (map (λ p. poly_of K p) rows) i ∙ sym (row-value K rows i)
+      row = poly-coeff P (polynomial_laws K.ring laws tests) (polynomial_tests K.ring laws tests)
+          (map (λ p. poly_of K p) rows) i ∙ sym (row-value K rows i)
 
-      degree : length (get_or rows i []) - 1 ≡ pred (size K.ring (coeff P (plane_of K rows).coeffs i))
-      degree = let s : size K.ring (coeff P (plane_of K rows).coeffs i) ≡ length (get_or rows i []) = ap (size K.ring) row ∙ poly-size K.ring laws tests K.value (get_or rows i []) (h.each i [] l).canonical in omega (arith, s)
+      degree : length (get_or rows i []) - 1 ≡ pred
+          (size K.ring (coeff P (plane_of K rows).coeffs i))
+      degree = let s : size K.ring (coeff P (plane_of K rows).coeffs i)
+          ≡ length (get_or rows i []) = ap (size K.ring) row
+          ∙ poly-size K.ring laws tests K.value (get_or rows i []) (h.each i [] l).canonical in
+          omega (arith, s)

@@ -14,6 +14,9 @@ use smallvec::SmallVec;
 use std::alloc::Global;
 use std::marker::Model;
 
+/// Zeros are made by so many at a time.
+const BLOCK: usize = 32;
+
 /// A polynomial in x: its coefficients by rising power, the last one not zero.
 ///
 /// Where a call is handed a polynomial or a list of values, these are of the field of the call.
@@ -219,10 +222,12 @@ impl Poly {
         ensures value { let F = K.elements k.now in let P = polys_over F in
             IfOk result (λ r. poly_of F r.items ≡ P.zero) }
     {
+        let block = [k.zero(); BLOCK];
         let mut zeros = SmallVec::with_capacity(alloc, n)?;
-        for _i in 0..n {
-            zeros.push(k.zero())?;
+        for _i in 0..n / BLOCK {
+            zeros.extend_from_slice(&block)?;
         }
+        zeros.extend_from_slice(&block[..n % BLOCK])?;
         Ok(zeros)
     }
 

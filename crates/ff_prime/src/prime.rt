@@ -92,6 +92,27 @@ impl Prime {
         }
     }
 
+    // Adds `c * b` to the entries of `sum` from `at` on, entry by entry.
+    #[inline(never)]
+    fn add_multiple_at(&self, sum: &mut [u32], at: usize, c: u32, b: &[u32])
+        requires sum { let p = number_of self.now in
+            (j : ℕ) → j < length sum.old → get_or sum.old j 0 < p }
+        requires c { c < number_of self.now }
+        requires b { (j : ℕ) → j < length b.now → get_or b.now j 0 < number_of self.now }
+        requires len { at + length b.now ≤ length sum.old }
+        ensures len { length sum.new ≡ length sum.old }
+        ensures before { (i : ℕ) → i < at → get_or sum.new i 0 ≡ get_or sum.old i 0 }
+        ensures entries { let p = number_of self.now in (j : ℕ) → j < length b.now →
+            get_or sum.new (at + j) 0 ≡ (get_or sum.old (at + j) 0 + c * get_or b.now j 0) % p }
+        ensures after { (i : ℕ) → at + length b.now ≤ i →
+            get_or sum.new i 0 ≡ get_or sum.old i 0 }
+    {
+        let prime = *self;
+        for j in 0..b.len() {
+            sum[at + j] = prime.reduced(sum[at + j] + c * b[j]);
+        }
+    }
+
     // Takes remainders where 400,000 products were added to each entry, so that one more fits, and
     // tells how many products are in each entry.
     fn make_room(&self, sum: &mut [u32], terms: u32) -> u32
@@ -128,8 +149,9 @@ impl Prime {
         ensures entries { (j : ℕ) → j < length sum.old →
             get_or sum.new j 0 ≡ get_or sum.old j 0 % number_of self.now }
     {
+        let prime = *self;
         for j in 0..sum.len() {
-            sum[j] = self.remainder(sum[j]);
+            sum[j] = prime.remainder(sum[j]);
         }
     }
 }
@@ -183,6 +205,10 @@ impl Ring for Prime {
 
     fn mul(&self, a: u32, b: u32) -> u32 {
         self.reduced(a * b)
+    }
+
+    fn add_scaled(&self, sum: &mut [u32], at: usize, c: u32, b: &[u32]) {
+        self.add_multiple_at(sum, at, c, b);
     }
 
     fn add_product(&self, sum: &mut [u32], a: &[u32], b: &[u32]) {

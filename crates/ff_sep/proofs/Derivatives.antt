@@ -85,7 +85,8 @@ module _ (F : Elements ℕ) (L : Lawful F) (f : List (List ℕ)) (hf : IsPlane F
         t : (u : Poly (rational (lawful_field L)).ring)
             × (embed K (P.add p (P.neg q)) ≡ Q.mul u (embed K g))
         t = over_divisor K g (P.add p (P.neg q)) (divisor_trans K g (plane_of F f)
-            (P.add p (P.neg q)) dg (divides_if_value K (plane_of F f) (P.add p (P.neg q)) some zero))
+            (P.add p (P.neg q)) dg (divides_if_value K (plane_of F f) (P.add p (P.neg q)) some
+            zero))
 
     -- a list with entries stands for no zero
     pub derivative-some : (d : List (List ℕ)) → IsPlane F d → plane_of F d ≡ y_derivative L f

@@ -17,7 +17,8 @@ use Rattle.ff_charts.specs.Chart.{Chart, IsChart, at_u, at_theta}
 use Rattle.ff_charts.specs.FieldCharts.{finite_chart}
 use Rattle.ff_charts.proofs.Chart.{powers_at, powers_plane}
 use Rattle.ff_charts.proofs.Rows.{equal_below}
-use Rattle.ff_charts.proofs.FiniteChart.{power_nonzero, leading_nonzero, at_is, from_theta, from_theta_at, finite_is_chart}
+use Rattle.ff_charts.proofs.FiniteChart.{power_nonzero, leading_nonzero, at_is, from_theta}
+use Rattle.ff_charts.proofs.FiniteChart.{from_theta_at, finite_is_chart}
 use Rattle.ff_conductor.proofs.SepForm.{sep_product}
 use Rattle.ff_conductor.proofs.Separable.{different_is}
 use Rattle.ff_elem.specs.declared.elem.Elem.{Elem}
@@ -71,7 +72,8 @@ module _ (F : Elements ℕ) (L : Lawful F) (f : List (List ℕ)) (hf : IsPlane F
         → top ≡ get_or powers (length powers - 2) top → poly_of F top ≡ top_power L f
     top-is powers top hp ht = ap (poly_of F) ht
         ∙ sym (coeff-map D.ring (poly_of F) powers (length powers - 2) top
-        (omega (arith, hp.count, two))) ∙ hp.value (length powers - 2) (omega (arith, hp.count, two))
+        (omega (arith, hp.count, two))) ∙ hp.value (length powers - 2)
+        (omega (arith, hp.count, two))
         ∙ (let e : length powers - 2 ≡ length f - 2 = omega (arith, hp.count) in
         ap (power D.ring (lead_of L f)) e)
 
@@ -87,7 +89,8 @@ module _ (F : Elements ℕ) (L : Lawful F) (f : List (List ℕ)) (hf : IsPlane F
         (D.no_divisors (top_power L f) (top_power L f) some some))
       where
         some : D.same (top_power L f) D.zero ≡ false
-        some = power_nonzero D (lead_of L f) (leading_nonzero K (plane_of F f) (length f - 1) has-one)
+        some = power_nonzero D (lead_of L f)
+            (leading_nonzero K (plane_of F f) (length f - 1) has-one)
             (length f - 2)
 
     pub has-parts : (w : Elem) (powers : List (List ℕ)) (den top d : List ℕ)
@@ -146,7 +149,8 @@ module _ (F : Elements ℕ) (L : Lawful F) (f : List (List ℕ)) (hf : IsPlane F
             (omega (arith, rows-size F L f num, count, len)) t.1.0
             (λ i l. rows-at num i ∙ value i (omega (arith, l, count))
             ∙ ap₂ D.mul (sym (rows-at rows i)) (hp.value i (omega (arith, l)))
-            ∙ sym (from_theta_at K (plane_of F f) (length f - 1) has-one (plane_of F rows) small i l))
+            ∙ sym (from_theta_at K (plane_of F f) (length f - 1) has-one (plane_of F rows) small i
+            l))
 
     pub is-sep : (w : Elem) (rows : List (List ℕ)) (s : Sep) → IsElem L f w
         → (algebra_in L f).mul (elem_of L f w)

@@ -7,8 +7,7 @@ use Rattle.ff_theory.specs.Lawful.{Domain, Field, Lawful, lawful_field}
 use Rattle.ff_theory.specs.Poly.{coeff, Poly, poly, polynomials}
 use Rattle.ff_theory.specs.Eval.{eval}
 use Rattle.ff_theory.proofs.Solver.{◌⊕◌, ◌⊗◌, nil, ring2}
-use Rattle.ff_theory.specs.Map.{IsMap}
-use Rattle.ff_theory.proofs.Poly.{trim-coeff, polynomial_laws}
+use Rattle.ff_theory.proofs.Poly.{trim-coeff}
 use Rattle.ff_theory.proofs.Division.{const}
 use Rattle.ff_theory.proofs.Evaluate.{const_map}
 use Rattle.ff_theory.proofs.PolyMap.{polynomial_domain}

@@ -9,3 +9,6 @@ pub mod Columns
 pub mod HornerLemmas
 pub mod PairValues
 pub mod PairLemmas
+-- Polynomials at an element by blocks
+pub mod BlockLemmas
+pub mod ClearedLemmas

@@ -3,12 +3,12 @@ use Rattle.std.proofs.Common.{◌≡◌, ℕ, ◌+◌, ◌<◌, ◌≤◌, ◌�
 use Rattle.std.proofs.Common.{map, get_or, refl, sym, ◌∙◌, ap, subst, arith}
 use Rattle.std.proofs.lemmas.Bool.{cases_lt}
 use Rattle.std.proofs.lemmas.List.{get_or_past, get_or_append_left, get_or_push, get_or_default}
-use Rattle.ff_theory.specs.Ring.{IsCommRing, Elements}
+use Rattle.ff_theory.specs.Ring.{Elements}
 use Rattle.ff_theory.specs.Lawful.{Domain, Field, Lawful, lawful_field}
 use Rattle.ff_theory.specs.Poly.{coeff, Poly, poly, polynomials}
 use Rattle.ff_theory.specs.Division.{IsDivision}
 use Rattle.ff_theory.proofs.Solver.{◌⊕◌, ◌⊗◌, nil, ring2, ring3}
-use Rattle.ff_theory.proofs.Poly.{trim-coeff, polynomial_laws}
+use Rattle.ff_theory.proofs.Poly.{trim-coeff}
 use Rattle.ff_theory.proofs.Division.{one_division}
 use Rattle.ff_theory.proofs.PolyMap.{polynomial_domain, nonzero_size, zero_size, not_same}
 use Rattle.ff_theory.specs.Planes.{planes, row_of}

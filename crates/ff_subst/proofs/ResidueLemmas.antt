@@ -8,11 +8,8 @@ use Rattle.ff_theory.specs.Lawful.{Domain, Field, Lawful, lawful_field}
 use Rattle.ff_theory.specs.Poly.{coeff, polynomials}
 use Rattle.ff_theory.specs.Divides.{Divides}
 use Rattle.ff_theory.proofs.Solver.{◌⊕◌, ◌⊗◌, neg, nil, ring2, ring3, ring4, mul_zero, one_mul}
-use Rattle.ff_theory.specs.Map.{IsMap}
 use Rattle.ff_theory.proofs.Sums.{sum-ext}
-use Rattle.ff_theory.proofs.Poly.{polynomial_laws}
 use Rattle.ff_theory.proofs.Division.{const}
-use Rattle.ff_theory.proofs.Evaluate.{const_map}
 use Rattle.ff_theory.proofs.PolyMap.{polynomial_domain}
 use Rattle.ff_theory.specs.Planes.{planes, Plane, row_of}
 use Rattle.ff_theory.proofs.Element.{algebra_is_ring, element_clear}

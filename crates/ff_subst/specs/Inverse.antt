@@ -4,7 +4,7 @@ use Rattle.ff_theory.specs.Ring.{Elements}
 use Rattle.ff_theory.specs.Lawful.{Lawful, lawful_field}
 use Rattle.ff_theory.specs.Values.{poly_of, IsPoly, plane_of}
 use Rattle.ff_elem.specs.declared.elem.Elem.{Elem}
-use Rattle.ff_elem.specs.Elem.{algebra_in}
+use Rattle.ff_elem.specs.Elem.{algebra_in, elem_of}
 use Rattle.ff_data.specs.declared.pair.Pair.{Pair}
 use Rattle.ff_data.specs.Pairs.{Satisfies, Undoes}
 use Rattle.ff_data.specs.Substitution.{poly_at, plane_at_pair}
@@ -37,6 +37,13 @@ module _ {K : Elements ℕ} (L : Lawful K) where
   IsQuotientAt g s X Y v = (algebra_in L g).mul v
       (poly_at (lawful_field L) (plane_of K g) X (poly_of K s.den))
       ≡ plane_at_pair (lawful_field L) (plane_of K g) X Y (plane_of K s.num)
+
+  -- the numerator of s at the pair is v times d
+  abbrev pub IsProductAt : (g : List (List ℕ)) → Elem → Pair → (v d : (algebra_in L g).carrier)
+      → Type 0
+  IsProductAt g s pair v d = (algebra_in L g).mul v d
+      ≡ plane_at_pair (lawful_field L) (plane_of K g) (elem_of L g pair.x) (elem_of L g pair.y)
+      (plane_of K s.num)
 
   -- the pair of E(g) satisfies f, and `back` gives x and y at it
   pub record IsOneSided (f g : List (List ℕ)) (pair back : Pair) : Type 0 where

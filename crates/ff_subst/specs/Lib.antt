@@ -4,4 +4,5 @@ pub mod Residues
 -- Pairs that are substituted
 pub mod Columns
 pub mod Powers
+pub mod Cleared
 pub mod Inverse

@@ -10,7 +10,7 @@ ghost use Rattle.ff_elem.specs.Elem.{algebra_in};
 ghost use Rattle.ff_data.specs.Substitution.{plane_at_pair};
 ghost use Rattle.ff_subst.specs.Congruence.{IsModulus, ArePlanes};
 ghost use Rattle.ff_theory.specs.Values.{ArePolys};
-ghost use Rattle.ff_subst.specs.Columns.{column_of, plane_combination, constant_at};
+ghost use Rattle.ff_subst.specs.Columns.{column_in, plane_combination, constant_at};
 ghost use Rattle.ff_subst.specs.Residues.{IsReduced, AreReduced, IsResidue};
 ghost use Rattle.ff_subst.specs.Powers.{AreMultiples, IsSubstitution, IsReducedPair};
 
@@ -23,7 +23,7 @@ use ff_poly::{Plane, Poly};
 use std::alloc::Global;
 
 // The sum with c times a bivariate polynomial.
-fn plus_multiple<K: FiniteField<E = u32>>(
+pub fn plus_multiple<K: FiniteField<E = u32>>(
     alloc: Global,
     k: &K,
     sum: Plane,
@@ -82,11 +82,9 @@ fn column<K: FiniteField<E = u32>>(
     requires rows { ArePolys (K.elements alg.now.k) rows.now }
     requires enough { length rows.now ≤ length powers.now.planes }
     ensures reduced { IfOk result (IsReduced (K.elements alg.now.k)) }
-    ensures residue { let F = K.elements alg.now.k in let L = K.lawful alg.now.k in
-        let f = alg.now.f in let A = algebra_in L f in
+    ensures residue { let L = K.lawful alg.now.k in let f = alg.now.f in let A = algebra_in L f in
         IfOk result (λ r. (m : List ℕ) (Y : A.carrier) → AreMultiples L f m A.one Y powers.now →
-        IsResidue L f m (column_of (lawful_field L) (plane_of F f) Y (plane_of F rows.now)
-        (length rows.now) i) r) }
+        IsResidue L f m (column_in L f rows.now Y i) r) }
 {
     let factor = powers.factor.copy(alloc)?;
     let plane = column_sum(alloc, &alg.k, powers.planes.list(), rows, i)?;
@@ -109,12 +107,10 @@ fn step<K: FiniteField<E = u32>>(
     requires enough { length rows.now ≤ length at.now.y.planes }
     requires value { IsReduced (K.elements alg.now.k) value.now }
     ensures reduced { IfOk result (IsReduced (K.elements alg.now.k)) }
-    ensures residue { let F = K.elements alg.now.k in let L = K.lawful alg.now.k in
-        let f = alg.now.f in let A = algebra_in L f in
+    ensures residue { let L = K.lawful alg.now.k in let f = alg.now.f in let A = algebra_in L f in
         IfOk result (λ r. (X Y u : A.carrier) → IsSubstitution L f m.now X Y at.now →
-        IsResidue L f m.now u value.now → IsResidue L f m.now
-        (A.add (column_of (lawful_field L) (plane_of F f) Y (plane_of F rows.now)
-        (length rows.now) i) (A.mul X u)) r) }
+        IsResidue L f m.now u value.now →
+        IsResidue L f m.now (A.add (column_in L f rows.now Y i) (A.mul X u)) r) }
 {
     let column = column(alloc, alg, &at.y, rows, i)?;
     let scaled = apply(alloc, alg, m, &at.x, value)?;

@@ -6,10 +6,11 @@ ghost use Rattle.ff_elem.specs.Elem.{elem_of, IsElem};
 ghost use Rattle.ff_data.specs.Pairs.{IsPair, Satisfies, HasValue, ValueIs, IsInversePair};
 ghost use Rattle.ff_theory.specs.Values.{ArePolys};
 
-use crate::modulus::{modulus, seed};
+use crate::blocks::{element_count, plane_count, power_list, value_of_poly};
+use crate::modulus::{modulus, seed_of};
 use crate::powers::prepare;
 use crate::tests::{may_invert, vanishes};
-use crate::values::{inverts, is_zero_at, value_of_poly, value_of_rows};
+use crate::values::{inverts, is_zero_at, value_of_rows};
 use ff_alg::{FiniteField, NoMemory, Steps};
 use ff_data::Pair;
 use ff_elem::{Alg, Elem, InvFault};
@@ -38,10 +39,11 @@ pub fn substitute<K: FiniteField<E = u32>>(
     ensures none { let L = K.lawful alg2.now.k in let g = alg2.now.f in
         IfOk result (λ v. IfNone v (¬ HasValue L g s.now pair.now)) }
 {
-    let den = value_of_poly(alloc, alg2, &pair.x, &s.den)?;
+    let at = power_list(alloc, alg2, &pair.x, element_count(s))?;
+    let den = value_of_poly(alloc, alg2, &at, &s.den)?;
     match alg2.inverse(alloc, &den) {
         Ok(inverse) => {
-            let num = value_of_rows(alloc, alg2, pair, s.num.rows())?;
+            let num = value_of_rows(alloc, alg2, &at, pair, s.num.rows())?;
             let value = alg2.mul(alloc, &num, &inverse)?;
             Ok(Some(value))
         }
@@ -62,7 +64,7 @@ fn may_satisfy<K: FiniteField<E = u32>>(
     ensures { let L = K.lawful alg2.now.k in let g = alg2.now.f in
         IfOk result (λ r. Satisfies L f.now g pair.now → IsTrue r) }
 {
-    let m = modulus(alloc, &alg2.k, seed(f, &alg2.f, pair, pair))?;
+    let m = modulus(alloc, &alg2.k, seed_of(f, &alg2.f, pair, pair))?;
     let at = prepare(alloc, alg2, &m, pair, f.rows().len())?;
     vanishes(alloc, alg2, &m, &at, f.rows())
 }
@@ -85,7 +87,8 @@ pub fn satisfies<K: FiniteField<E = u32>>(
     if !possible {
         return Ok(false);
     }
-    is_zero_at(alloc, alg2, f, pair)
+    let at = power_list(alloc, alg2, &pair.x, plane_count(f))?;
+    is_zero_at(alloc, alg2, &at, f, pair)
 }
 
 // Whether the pairs may be inverse, by tests modulo a polynomial in x.
@@ -102,7 +105,7 @@ fn may_be_inverse<K: FiniteField<E = u32>>(
     ensures { let L = K.lawful alg2.now.k in let f = alg1.now.f in let g = alg2.now.f in
         IfOk result (λ r. IsInversePair L f g pair.now back.now → IsTrue r) }
 {
-    let m = modulus(alloc, &alg2.k, seed(&alg1.f, &alg2.f, pair, back))?;
+    let m = modulus(alloc, &alg2.k, seed_of(&alg1.f, &alg2.f, pair, back))?;
     let possible = may_invert(alloc, alg2, &m, &alg1.f, pair, back)?;
     if !possible {
         return Ok(false);

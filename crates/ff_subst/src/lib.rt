@@ -1,6 +1,8 @@
 //! Elements of E(g) put for x and y: values of elements of E(f), satisfying pairs, inverse pairs.
 #![tactic(auto)]
 
+mod blocks;
+mod cleared;
 mod evaluation;
 mod inverse;
 mod modulo;

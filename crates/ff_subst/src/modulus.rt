@@ -40,38 +40,56 @@ fn mix_element(state: u64, e: &Elem) -> u64 {
     mix_rows(mix_poly(state, &e.den), e.num.rows())
 }
 
-// A number that depends on two equations and two pairs.
-pub fn seed(f: &Plane, g: &Plane, pair: &Pair, back: &Pair) -> u64 {
-    let equations = mix_rows(mix_rows(1, f.rows()), g.rows());
+// What a modulus is made from: two numbers, since one could be met on purpose.
+#[derive(Clone, Copy)]
+pub struct Seed {
+    first: u64,
+    second: u64,
+}
+
+// Two numbers that depend on two equations and two pairs.
+pub fn seed_of(f: &Plane, g: &Plane, pair: &Pair, back: &Pair) -> Seed {
+    Seed {
+        first: mix_all(1, f, g, pair, back),
+        second: mix_all(2, f, g, pair, back),
+    }
+}
+
+// The state after two equations and two pairs.
+fn mix_all(state: u64, f: &Plane, g: &Plane, pair: &Pair, back: &Pair) -> u64 {
+    let equations = mix_rows(mix_rows(state, f.rows()), g.rows());
     let first = mix_element(mix_element(equations, &pair.x), &pair.y);
     mix_element(mix_element(first, &back.x), &back.y)
 }
 
-// How many coefficients there are to be: so many that there are more than 2^40 choices.
+// How many coefficients there are to be: so many that there are more than 2^64 choices.
 fn coefficient_count(size: u64) -> usize {
     if size < 4 {
-        40
+        66
     } else if size < 16 {
-        20
+        28
+    } else if size < 88 {
+        16
     } else {
         10
     }
 }
 
-// Elements of the field, `count` of them, that depend on the state.
+// Elements of the field, `count` of them, that depend on the seed.
 fn elements<K: FiniteField<E = u32>>(
     alloc: Global,
     k: &K,
-    state: u64,
+    seed: Seed,
     count: usize,
 ) -> Result<Vec<u32>, NoMemory>
     ensures { IfOk result (λ r. All (IsElement (K.elements k.now)) r.items) }
 {
-    let mut state = state;
+    let (mut first, mut second) = (seed.first, seed.second);
     let mut list = Vec::new(alloc);
     for i in 0..count {
-        state = mix(state, i as u64);
-        list.push(element(k, state))?;
+        first = mix(first, i as u64);
+        second = mix(second, i as u64);
+        list.push(element(k, mix(first, second)))?;
     }
     Ok(list)
 }
@@ -87,11 +105,11 @@ fn element<K: FiniteField<E = u32>>(k: &K, state: u64) -> u32
     k.nth(state % count)
 }
 
-// A polynomial that is not 0 and depends on the state.
-pub fn modulus<K: FiniteField<E = u32>>(alloc: Global, k: &K, state: u64) -> Result<Poly, NoMemory>
+// A polynomial that is not 0 and depends on the seed.
+pub fn modulus<K: FiniteField<E = u32>>(alloc: Global, k: &K, seed: Seed) -> Result<Poly, NoMemory>
     ensures { IfOk result (IsModulus (K.elements k.now)) }
 {
-    let list = elements(alloc, k, state, coefficient_count(k.count()))?;
+    let list = elements(alloc, k, seed, coefficient_count(k.count()))?;
     let m = Poly::from_coeffs(alloc, k, &list)?;
     if m.is_zero() {
         return Poly::one(alloc, k);

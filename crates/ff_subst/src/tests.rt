@@ -146,6 +146,34 @@ fn gives_variables<K: FiniteField<E = u32>>(
     takes(alloc, alg, m, at, &back.y, &y)
 }
 
+// Whether f may be 0 at a pair that is ready, and `back` may give x and y at it.
+fn may_invert_at<K: FiniteField<E = u32>>(
+    alloc: Global,
+    alg: &Alg<K>,
+    m: &Poly,
+    at: &Substitution,
+    f: &Plane,
+    back: &Pair,
+) -> Result<bool, NoMemory>
+    requires m { IsModulus (K.elements alg.now.k) m.now }
+    requires at { IsReducedPair (K.elements alg.now.k) at.now }
+    requires matrix { let L = K.lawful alg.now.k in let f = alg.now.f in
+        IsMatrix L f m.now (y_in L f) at.now.by_y }
+    requires f { IsPlane (K.elements alg.now.k) f.now }
+    requires count { length at.now.y.planes ≡ length f.now }
+    requires back { IsSmallPair (K.elements alg.now.k) (length f.now) back.now }
+    ensures { let L = K.lawful alg.now.k in let g = alg.now.f in
+        IfOk result (λ r. (pair : Pair) →
+        IsSubstitution L g m.now (elem_of L g pair.x) (elem_of L g pair.y) at.now →
+        IsOneSided L f.now g pair back.now → IsTrue r) }
+{
+    let zero = vanishes(alloc, alg, m, at, f.rows())?;
+    if !zero {
+        return Ok(false);
+    }
+    gives_variables(alloc, alg, m, at, back)
+}
+
 // Whether the pair may satisfy f and `back` may give x and y at it.
 pub fn may_invert<K: FiniteField<E = u32>>(
     alloc: Global,
@@ -163,9 +191,5 @@ pub fn may_invert<K: FiniteField<E = u32>>(
         IfOk result (λ r. IsOneSided L f.now g pair.now back.now → IsTrue r) }
 {
     let at = prepare(alloc, alg, m, pair, f.rows().len())?;
-    let zero = vanishes(alloc, alg, m, &at, f.rows())?;
-    if !zero {
-        return Ok(false);
-    }
-    gives_variables(alloc, alg, m, &at, back)
+    may_invert_at(alloc, alg, m, &at, f, back)
 }

@@ -2,7 +2,11 @@
 //! fields, and what no contract says. Whole runs are the table of `ff_rows`.
 #![tactic(auto)]
 
+#[cfg(test)]
+mod order;
 pub mod pairs;
+#[cfg(test)]
+mod sep;
 #[cfg(test)]
 mod subst;
 #[cfg(test)]

@@ -76,7 +76,8 @@ pub equation_height : (s : Ratio) (xs : List Monomial) → xs ≡ s.numerator.it
     ≡ false → All (λ m. m.x < EQUATION_WIDTH) xs × All (λ m. m.y < EQUATION_HEIGHT) xs
 equation_height s xs e w =
     let b = all_below MAX_X_DEGREE MAX_Y_DEGREE s.numerator.items
-    (neither (exceeds MAX_X_DEGREE MAX_Y_DEGREE s.numerator.items) (monic_exceeds MAX_MONIC_DEGREE s.numerator.items) w).0 in (
+    (neither (exceeds MAX_X_DEGREE MAX_Y_DEGREE s.numerator.items)
+    (monic_exceeds MAX_MONIC_DEGREE s.numerator.items) w).0 in (
       subst (All (λ (m : Monomial). m.x < EQUATION_WIDTH)) (sym e) b.0,
       subst (All (λ (m : Monomial). m.y < EQUATION_HEIGHT))
           (sym e) b.1,
@@ -86,7 +87,8 @@ pub element_height : (s : Ratio) (xs : List Monomial) → xs ≡ s.numerator.ite
     ≡ false → All (λ m. m.x < ELEM_WIDTH) xs × All (λ m. m.y < ELEM_HEIGHT) xs
 element_height s xs e w =
     let b = all_below MAX_ELEM_X_DEGREE MAX_ELEM_Y_DEGREE s.numerator.items
-    (neither (exceeds MAX_ELEM_X_DEGREE MAX_ELEM_Y_DEGREE s.numerator.items) (exceeds MAX_ELEM_X_DEGREE MAX_ELEM_Y_DEGREE s.denominator.items) w).0 in (
+    (neither (exceeds MAX_ELEM_X_DEGREE MAX_ELEM_Y_DEGREE s.numerator.items)
+    (exceeds MAX_ELEM_X_DEGREE MAX_ELEM_Y_DEGREE s.denominator.items) w).0 in (
       subst (All (λ (m : Monomial). m.x < ELEM_WIDTH)) (sym e) b.0,
       subst (All (λ (m : Monomial). m.y < ELEM_HEIGHT))
           (sym e) b.1,

@@ -263,17 +263,18 @@ pub plane_answers : {E : Type 0} (p : ℕ) → IsTrue (is_in p primes)
     → IfOk result (λ r. plane_of (prime_elements p) r ≡ plane_of (prime_elements p) rows)
     → IfOk result (λ r. (ms : List Monomial) → IsCollected p ms cs → IsSum p ms r)
 plane_answers p known (Err x) cs width height n rows built wx wy h le e plane value = tt
-plane_answers p known (Ok r) cs width height n rows built wx wy h le e plane value = λ ms c. record {
-  plane = plane;
-  same = λ i j.
-      same_rows p known r built plane.each h.each
-      (value ∙ ap (λ t. plane_of (prime_elements p) t) e) i j
-      ∙ ⊎_elim
-      (λ (lt : j < n). h.same j lt i ∙ row_same p j ms cs width c wx i)
-      (λ (ge : n ≤ j). ap (λ t. get_or t i 0) (get_or_past built j [] (omega (arith, h.len)))
-      ∙ sym (none_above p ms cs height i j c wy (omega arith)))
-      (cases_lt j n);
-}
+plane_answers p known (Ok r) cs width height n rows built wx wy h le e plane value =
+    λ ms c. record {
+      plane = plane;
+      same = λ i j.
+          same_rows p known r built plane.each h.each
+          (value ∙ ap (λ t. plane_of (prime_elements p) t) e) i j
+          ∙ ⊎_elim
+          (λ (lt : j < n). h.same j lt i ∙ row_same p j ms cs width c wx i)
+          (λ (ge : n ≤ j). ap (λ t. get_or t i 0) (get_or_past built j [] (omega (arith, h.len)))
+          ∙ sym (none_above p ms cs height i j c wy (omega arith)))
+          (cases_lt j n);
+    }
 
 pub polynomial_answers : {E : Type 0} (p : ℕ) (result : Result (List ℕ) E) (cs : List Monomial)
     (width : ℕ) → All (λ m. m.x < width) cs

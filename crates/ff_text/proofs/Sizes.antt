@@ -24,7 +24,8 @@ use Rattle.ff_text.specs.declared.reader.State.TheVariants.{FactorStart}
 use Rattle.ff_text.specs.declared.reader.State.TheVariants.{InDigits, AfterVariable, ExponentStart}
 use Rattle.ff_text.specs.declared.reader.State.TheVariants.{AfterFactor, AfterNumerator, AfterSlash}
 use Rattle.ff_text.specs.Symbols.{IsDigitShort}
-use Rattle.ff_text.specs.Reading.{Progress, number_bound, IsShort, IsShortAt, HasExponents, IsWithin, start, step}
+use Rattle.ff_text.specs.Reading.{Progress, number_bound, IsShort, IsShortAt, HasExponents}
+use Rattle.ff_text.specs.Reading.{IsWithin, start, step}
 use Rattle.ff_text.specs.Reading.{step_at, first_digit, push_digit, allows, apply}
 use Rattle.ff_text.specs.Reading.{step_line_end, step_text_start, step_between, open_line}
 use Rattle.ff_text.specs.Reading.{step_number_start, step_in_number, step_element_start}

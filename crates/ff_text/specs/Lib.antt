@@ -11,6 +11,7 @@ pub mod Ratios
 pub mod Limits
 pub mod Parts
 pub mod Values
--- Printed texts: faults and polynomials, then elements and lists.
+-- Printed texts: faults and polynomials, elements and lists, refusals.
 pub mod Printed
 pub mod Lists
+pub mod Refusals

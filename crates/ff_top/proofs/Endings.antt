@@ -1,24 +1,29 @@
 -- The ends of a run.
-use Rattle.std.proofs.Common.{◌≡◌, inl, inr, ℕ, List, Option, sym, ◌∙◌, subst}
+use Rattle.std.proofs.Common.{inl, inr, ℕ, List, Option, sym, subst}
 use Rattle.std.specs.Io.KnownBytes.{Appends}
+use Rattle.ff_theory.specs.Ring.{Elements}
+use Rattle.ff_theory.specs.Lawful.{Lawful}
 use Rattle.ff_text.specs.declared.fault.TextFault.{TextFault}
 use Rattle.ff_text.specs.declared.fault.TextFault.TheVariants as fault
 use Rattle.ff_text.specs.declared.layout.Mode.{Mode}
 use Rattle.ff_text.specs.declared.layout.Mode.TheVariants as mode
-use Rattle.ff_text.specs.Grammar.{Text}
+use Rattle.ff_text.specs.declared.job.Job.{Job}
 use Rattle.ff_top.specs.declared.status.Status.{Status}
 use Rattle.ff_top.specs.declared.status.Status.TheVariants.{Done, BadInput, Premise, Limit}
 use Rattle.ff_top.specs.declared.status.Status.TheVariants.{ReadFault, WriteFault, NoMemory, Usage}
 use Rattle.ff_top.specs.Words.{IsCommand, HasCommand}
 use Rattle.ff_top.specs.Input.{IsFaultOf, IsInputAnswer, status_of}
-use Rattle.ff_top.specs.Run.{Ends, IsReadAnswer, Judges, Writes}
+use Rattle.ff_top.specs.Order.{IsOrderAnswer}
+use Rattle.ff_top.specs.Commands.{Judges}
+use Rattle.ff_top.specs.Run.{Ends, IsReadAnswer, Writes}
 
--- where the words are not `check`, they are no command
-pub no_command : (words : List (List ℕ)) → ¬ IsCommand words mode.Check → ¬ HasCommand words
-no_command words h (mode.Check, c) = h c
-no_command words h (mode.Iso, c) = c
-no_command words h (mode.Aut, c) = c
-no_command words h (mode.Order, c) = c
+-- where the words are neither `check` nor `order`, they are no command
+pub no_command : (words : List (List ℕ)) → ¬ IsCommand words mode.Check
+    → ¬ IsCommand words mode.Order → ¬ HasCommand words
+no_command words h k (mode.Check, c) = h c
+no_command words h k (mode.Order, c) = k c
+no_command words h k (mode.Iso, c) = c
+no_command words h k (mode.Aut, c) = c
 
 -- a status that stands with a text of its own
 abbrev pub HasText : Status → Type 0
@@ -43,13 +48,19 @@ fault_is_of_input mode bytes (fault.NoY w) h = tt
 fault_is_of_input mode bytes (fault.ZeroDenominator w) h = tt
 fault_is_of_input mode bytes (fault.Degree w) h = tt
 
-judged_is_of_input : (mode : Mode) (v : Text) (before after : ℕ) (status : Status)
-    (text : List ℕ) → Judges mode v before after status text → IsOfInput status
-judged_is_of_input mode.Check v before after status text h =
+order_is_of_input : {F : Elements ℕ} (L : Lawful F) (f : List (List ℕ)) (status : Status)
+    (text : List ℕ) → IsOrderAnswer L f status text → IsOfInput status
+order_is_of_input L f status text (inl h) = subst (λ s. IsOfInput s) (sym h.status_is) tt
+order_is_of_input L f status text (inr h) = subst (λ s. IsOfInput s) (sym h.status_is) tt
+
+judged_is_of_input : (mode : Mode) (job : Job) (before after : ℕ) (status : Status)
+    (text : List ℕ) → Judges mode job before after status text → IsOfInput status
+judged_is_of_input mode.Check job before after status text h =
     subst (λ s. IsOfInput s) (sym h.status_is) tt
-judged_is_of_input mode.Iso v before after status text h = absurd h
-judged_is_of_input mode.Aut v before after status text h = absurd h
-judged_is_of_input mode.Order v before after status text h = absurd h
+judged_is_of_input mode.Order job before after status text h =
+    order_is_of_input _ job.first status text h.answered.answer
+judged_is_of_input mode.Iso job before after status text h = absurd h
+judged_is_of_input mode.Aut job before after status text h = absurd h
 
 answer_is_of_input : (mode : Mode) (bytes : List ℕ) (before after : ℕ) (status : Status)
     (text : List ℕ) → IsInputAnswer mode (Judges mode) bytes before after status text
@@ -59,9 +70,8 @@ answer_is_of_input mode bytes before after status text (inl h) =
 answer_is_of_input mode bytes before after status text (inr (inl h)) =
     subst (λ s. IsOfInput s) (sym h.status_is) (fault_is_of_input mode bytes h.found h.is_fault)
 answer_is_of_input mode bytes before after status text (inr (inr h)) =
-    let v = h.judged.text in
-    let j : Judges mode v before after status text = h.judged.holds v h.judged.derives in
-    judged_is_of_input mode v before after status text j
+    let j = h.judged.holds h.judged.text h.judged.derives in
+    judged_is_of_input mode j.job before after status text j.judged
 
 of_input_has_text : (status : Status) → IsOfInput status → HasText status
 of_input_has_text Done h = tt
@@ -93,7 +103,7 @@ ends_writes P status text old new result k p (inl (e, a)) =
 ends_writes P status text old new result k p (inr (e, a)) =
     subst (λ s. Writes P old new s) (sym e) (status, text, p, a)
 
--- the answer of a command has a text, and the status of a read fault has its cause
+-- the answer of a command has a text
 module _ (mode : Mode) (old new : Option (List ℕ)) (rose : Type 0) (before after : ℕ)
     (status : Status) (text : List ℕ) where
   pub read_answer_has_text : IsReadAnswer mode old new rose before after status text
@@ -101,29 +111,3 @@ module _ (mode : Mode) (old new : Option (List ℕ)) (rose : Type 0) (before aft
   read_answer_has_text (inl a) = subst (λ s. HasText s) (sym a.status_is) tt
   read_answer_has_text (inr a) =
       of_input_has_text status (answer_is_of_input mode a.bytes before after status text a.answer)
-
-  pub read_fault_cause : IsReadAnswer mode old new rose before after status text
-      → status ≡ ReadFault → rose
-  read_fault_cause (inl a) e = a.cause
-  read_fault_cause (inr a) e = absurd (subst (λ s. IsOfInput s) e
-      (answer_is_of_input mode a.bytes before after status text a.answer))
-
--- the end of a run whose status is none of those that the end itself gives
-module _ (status : Status) (text : List ℕ) (old new : Option (List ℕ)) (result : Status)
-    (k : HasText status) (ends : Ends status text old new result) where
-  pub end_not_memory : ¬ (result ≡ NoMemory)
-  end_not_memory e = go ends
-    where
-      go : Ends status text old new result → ⊥
-      go (inl (f, a)) = subst (λ s. HasText s) (sym f ∙ e) k
-      go (inr (f, a)) = let g : WriteFault ≡ NoMemory = sym f ∙ e in cc
-
-  pub end_read_fault : result ≡ ReadFault → status ≡ ReadFault
-  end_read_fault e = go ends
-    where
-      go : Ends status text old new result → status ≡ ReadFault
-      go (inl (f, a)) = sym f ∙ e
-      go (inr (f, a)) = let g : WriteFault ≡ ReadFault = sym f ∙ e in cc
-
-  pub end_write_fault : result ≡ WriteFault → ¬ (result ≡ status)
-  end_write_fault e f = subst (λ s. HasText s) (sym f ∙ e) k

@@ -6,16 +6,14 @@ use Rattle.ff_text.specs.declared.fault.TextFault.{TextFault}
 use Rattle.ff_text.specs.declared.fault.TextFault.TheVariants as fault
 use Rattle.ff_text.specs.declared.layout.Line.{Line}
 use Rattle.ff_text.specs.declared.layout.Mode.{Mode}
-use Rattle.ff_text.specs.declared.job.TheConstants.{MAX_BYTES}
 use Rattle.ff_text.specs.declared.layout.Mode.TheVariants as mode
 use Rattle.ff_text.specs.declared.job.Job.{Job}
 use Rattle.ff_text.specs.declared.symbol.Symbol.{Symbol}
 use Rattle.ff_text.specs.Grammar.{Entry, Text, Lines, IsText, Derives, IsFaultAt, lines_of}
 use Rattle.ff_text.specs.Values.{LacksY, IsOverZero, EquationExceeds, ElementExceeds, IsEntry}
 use Rattle.ff_text.specs.Values.{Says, IsFirst, Answers, NeedsText}
-use Rattle.ff_text.specs.Printed.{HasText, fault_text}
-use Rattle.ff_top.specs.Input.{HoldsForText, IsFaultOf, IsInputAnswer, status_of}
-use Rattle.ff_top.specs.declared.status.Status.{Status}
+use Rattle.ff_text.specs.Printed.{HasText}
+use Rattle.ff_top.specs.Input.{HoldsForText, IsFaultOf}
 
 -- ---- A text has at most six entries
 
@@ -92,28 +90,9 @@ fault_has_text mode bytes (fault.Degree w) h = degree (says_of mode bytes (fault
         )
 fault_has_text mode bytes fault.NoMemory h = absurd h
 
--- ---- What follows from two and from three promises on a value
-
-pub if_ok2 : {T E : Type 0} (r : Result T E) (P Q R : T → Type 0) → ((x : T) → P x → Q x → R x)
-    → IfOk r P → IfOk r Q → IfOk r R
-if_ok2 (Ok x) P Q R f p q = f x p q
-if_ok2 (Err e) P Q R f p q = tt
+-- ---- What follows from three promises on a value
 
 pub if_ok3 : {T E : Type 0} (r : Result T E) (P Q S R : T → Type 0)
     → ((x : T) → P x → Q x → S x → R x) → IfOk r P → IfOk r Q → IfOk r S → IfOk r R
 if_ok3 (Ok x) P Q S R f p q s = f x p q s
 if_ok3 (Err e) P Q S R f p q s = tt
-
--- the answer to a fault
-pub fault_answer : (mode : Mode) (judges : Text → ℕ → ℕ → Status → List ℕ → Type 0)
-    (bytes : List ℕ) (f : TextFault) (count : ℕ) (status : Status) (text : List ℕ)
-    → length bytes ≤ MAX_BYTES → IsFaultOf mode bytes f → status ≡ status_of f → text ≡ fault_text f
-    → IsInputAnswer mode judges bytes count count status text
-fault_answer mode judges bytes f count status text within is s t = inr (inl (record {
-  within = within;
-  found = f;
-  is_fault = is;
-  unticked = refl;
-  status_is = s;
-  text_is = t;
-}))

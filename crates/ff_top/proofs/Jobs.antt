@@ -1,7 +1,7 @@
--- What is known of the job of a text of `check`.
+-- The job of a text: what is known of it, and what is said of it as an answer to bytes.
 use Rattle.std.proofs.Common.{◌≡◌, ℕ, zero, suc, ◌%◌, ◌<◌, ◌≤◌, Bool, true, false, eqb, ◌&&◌}
 use Rattle.std.proofs.Common.{cond, List, [], ◌∷◌, length, get_or, Option, Some, None, Ok, refl}
-use Rattle.std.proofs.Common.{sym, ap, subst, ◌∙◌, arith, lit<, lit≤, ⊎_elim}
+use Rattle.std.proofs.Common.{sym, ap, subst, ◌∙◌, arith, lit<, lit≤, ⊎_elim, inr}
 use Rattle.std.specs.List.{sum_by, AllZip, All}
 use Rattle.std.proofs.lemmas.Bool.{cases_lt, ne_eqb}
 use Rattle.std.proofs.lemmas.List.{nil_from_length}
@@ -9,7 +9,9 @@ use Rattle.std.proofs.lemmas.List.Sums.{sum_by-cons}
 use Rattle.std.proofs.Math.Nat.{zero-mod}
 use Rattle.ff_theory.specs.PrimeTable.{prime_elements}
 use Rattle.ff_text.specs.declared.fault.TextFault.TheVariants as fault
+use Rattle.ff_text.specs.declared.layout.Mode.{Mode}
 use Rattle.ff_text.specs.declared.layout.Mode.TheVariants as mode
+use Rattle.ff_text.specs.declared.job.TheConstants.{MAX_BYTES}
 use Rattle.ff_text.specs.declared.job.RawElem.{RawElem}
 use Rattle.ff_text.specs.declared.job.Job.{Job}
 use Rattle.ff_text.specs.declared.reader.Monomial.{Monomial}
@@ -23,7 +25,10 @@ use Rattle.ff_text.specs.Sums.{share, total}
 use Rattle.ff_text.specs.Values.{terms_of, terms_or_one, denominator_of, IsZero}
 use Rattle.ff_text.specs.Values.{IsOverZero, IsEntry, IsElement, HasEquations, HoldsEntries}
 use Rattle.ff_text.specs.Values.{Answers}
+use Rattle.ff_top.specs.declared.status.Status.{Status}
+use Rattle.ff_top.specs.Input.{HoldsForText, IsInputAnswer, IsJudged}
 use Rattle.ff_top.specs.Check.{IsFraction, IsSound}
+use Rattle.ff_top.specs.Commands.{IsSoundFor}
 
 -- ---- No y stands in a denominator
 
@@ -156,8 +161,8 @@ fractions_of_six p es job
     (λ h. not_zero 5 (lit≤ tt) (4, refl, lit< tt, λ d. h))
     (λ h. not_zero 6 (lit≤ tt) (5, refl, lit< tt, λ d. h)) job.elems.items holds.1
 
--- The job of a text without a fault has two equations and four fractions.
-pub job_sound : (bytes : List ℕ) (v : Text) (job : Job) → Derives mode.Check bytes v
+-- The job of a text of `check` without a fault has two equations and four fractions.
+job_sound : (bytes : List ℕ) (v : Text) (job : Job) → Derives mode.Check bytes v
     → Answers v (Ok job) → HasEquations job → IsSound job
 job_sound bytes v job derives answers equations =
     let h = fractions_of_six v.number v.entries job (six_entries derives) answers.0.entries
@@ -167,4 +172,35 @@ job_sound bytes v job derives answers equations =
       four = h.0;
       fractions = subst (λ q. All (IsFraction (prime_elements q)) job.elems.items)
           (sym answers.0.prime) h.1;
+    }
+
+-- what is known of the job of a text of any mode
+pub sound_for : (mode : Mode) (bytes : List ℕ) (v : Text) (job : Job) → Derives mode bytes v
+    → Answers v (Ok job) → HasEquations job → IsSoundFor mode job
+sound_for mode.Check bytes v job derives answers equations =
+    job_sound bytes v job derives answers equations
+sound_for mode.Order bytes v job derives answers equations = equations
+sound_for mode.Iso bytes v job derives answers equations = equations
+sound_for mode.Aut bytes v job derives answers equations = equations
+
+-- what is said of the job of the bytes is an answer to them
+pub job_answer : (mode : Mode) (judges : Job → ℕ → ℕ → Status → List ℕ → Type 0)
+    (bytes : List ℕ) (job : Job) (before after : ℕ) (status : Status) (text : List ℕ)
+    → length bytes ≤ MAX_BYTES → ((v : Text) × Derives mode bytes v)
+    → ((v : Text) → Derives mode bytes v → Answers v (Ok job))
+    → judges job before after status text
+    → IsInputAnswer mode judges bytes before after status text
+job_answer mode judges bytes job before after status text within d h j =
+    inr (inr (record { within = within; judged = judged }))
+  where
+    judged : HoldsForText mode bytes (λ v. IsJudged judges v before after status text)
+    judged = record {
+      text = d.0;
+      derives = d.1;
+      holds = λ v dv. record {
+        faultless = (h v dv).1;
+        job = job;
+        is_job = (h v dv).0;
+        judged = j;
+      };
     }

@@ -1,4 +1,4 @@
--- What `check` judges of a text: the verdict on its pairs.
+-- What `check` says of a job: the verdict on its pairs.
 use Rattle.std.specs.Prelude.{◌≡◌, ◌+◌, ◌<◌, ◌↔◌, ℕ, IsTrue, Bool, true, false, List, [], ◌∷◌}
 use Rattle.std.specs.Prelude.{length, codes}
 use Rattle.std.specs.List.{All}
@@ -11,11 +11,9 @@ use Rattle.ff_theory.specs.Values.{IsPoly, IsPlane}
 use Rattle.ff_elem.specs.Elem.{elem_of, over_in}
 use Rattle.ff_data.specs.declared.pair.Pair.{Pair}
 use Rattle.ff_data.specs.Pairs.{IsPair, IsInversePair}
-use Rattle.ff_text.specs.declared.fault.TextFault.{TextFault}
 use Rattle.ff_text.specs.declared.job.RawElem.{RawElem}
 use Rattle.ff_text.specs.declared.job.Job.{Job}
-use Rattle.ff_text.specs.Grammar.{Text}
-use Rattle.ff_text.specs.Values.{HasEquations, Says, IsJob}
+use Rattle.ff_text.specs.Values.{HasEquations}
 use Rattle.ff_top.specs.declared.status.Status.{Status}
 use Rattle.ff_top.specs.declared.status.Status.TheVariants.{Done}
 use Rattle.ff_top.specs.Words.{line}
@@ -36,6 +34,14 @@ abbrev pub verdict_text : Bool → List ℕ
 verdict_text true = line (codes "yes")
 verdict_text false = line (codes "no")
 
+-- The fractions U and V are a pair (U, V) of E(f). The answer is whether the pair of E(g) satisfies
+-- f and (U, V) is its inverse pair.
+pub record TestsBack {K : Elements ℕ} (L : Lawful K)
+    (f g : List (List ℕ)) (u v : RawElem) (pair : Pair) (answer : Bool) : Type 0 where
+  pub back : Pair
+  pub is_back : IsPairOf L f u v back
+  pub inverse : IsTrue answer ↔ IsInversePair L f g pair back
+
 -- The elements are X, Y, U and V: fractions that are a pair (X, Y) of E(g) and a pair (U, V) of
 -- E(f). The answer is whether (X, Y) satisfies f and (U, V) is its inverse pair.
 pub record TestsPairs {K : Elements ℕ} (L : Lawful K)
@@ -47,9 +53,7 @@ pub record TestsPairs {K : Elements ℕ} (L : Lawful K)
   pub fractions : elems ≡ x ∷ y ∷ u ∷ v ∷ []
   pub pair : Pair
   pub is_pair : IsPairOf L g x y pair
-  pub back : Pair
-  pub is_back : IsPairOf L f u v back
-  pub inverse : IsTrue answer ↔ IsInversePair L f g pair back
+  pub tests : TestsBack L f g u v pair answer
 
 -- The residues modulo the prime of the job are a finite field, and the text says whether the pairs
 -- of the job, over that field, are inverse.
@@ -63,15 +67,12 @@ pub record IsVerdict (job : Job) (text : List ℕ) : Type 0 where
       job.first job.second job.elems.items answer
   pub text_is : text ≡ verdict_text answer
 
--- The text has no fault, and this is the verdict on its job. It ticks the counter once.
-pub record IsJudged
-    (v : Text) (before after : ℕ) (status : Status) (written : List ℕ) : Type 0 where
-  pub faultless : (f : TextFault) → ¬ Says v f
-  pub job : Job
-  pub is_job : IsJob v job
+-- the verdict on the job, which ticks the counter once
+pub record IsChecked
+    (job : Job) (before after : ℕ) (status : Status) (text : List ℕ) : Type 0 where
   pub ticked : after ≡ before + 1
   pub status_is : status ≡ Done
-  pub verdict : IsVerdict job written
+  pub verdict : IsVerdict job text
 
 -- ---- What the verdict rests on
 

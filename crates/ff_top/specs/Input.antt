@@ -6,7 +6,8 @@ use Rattle.ff_text.specs.declared.fault.TextFault.TheVariants as fault
 use Rattle.ff_text.specs.declared.job.TheConstants.{MAX_BYTES}
 use Rattle.ff_text.specs.declared.layout.Mode.{Mode}
 use Rattle.ff_text.specs.Grammar.{Text, Derives, IsFaultAt}
-use Rattle.ff_text.specs.Values.{IsFirst}
+use Rattle.ff_text.specs.declared.job.Job.{Job}
+use Rattle.ff_text.specs.Values.{IsFirst, Says, IsJob}
 use Rattle.ff_text.specs.Printed.{fault_text}
 use Rattle.ff_top.specs.declared.status.Status.{Status}
 use Rattle.ff_top.specs.declared.status.Status.TheVariants.{BadInput, Limit, NoMemory}
@@ -55,14 +56,22 @@ pub record AnswersFault (mode : Mode)
   pub status_is : status ≡ status_of found
   pub text_is : text ≡ fault_text found
 
--- the bytes are a text without a fault, and the command judges it
-pub record AnswersText (mode : Mode) (judges : Text → ℕ → ℕ → Status → List ℕ → Type 0)
+-- the text has no fault, and this is what the command says of its job
+pub record IsJudged (judges : Job → ℕ → ℕ → Status → List ℕ → Type 0)
+    (v : Text) (before after : ℕ) (status : Status) (text : List ℕ) : Type 0 where
+  pub faultless : (f : TextFault) → ¬ Says v f
+  pub job : Job
+  pub is_job : IsJob v job
+  pub judged : judges job before after status text
+
+-- the bytes are a text without a fault, and the command answers its job
+pub record AnswersText (mode : Mode) (judges : Job → ℕ → ℕ → Status → List ℕ → Type 0)
     (bytes : List ℕ) (before after : ℕ) (status : Status) (text : List ℕ) : Type 0 where
   pub within : length bytes ≤ MAX_BYTES
-  pub judged : HoldsForText mode bytes (λ v. judges v before after status text)
+  pub judged : HoldsForText mode bytes (λ v. IsJudged judges v before after status text)
 
--- an answer of the command whose input is read in this mode, and which judges texts so
-abbrev pub IsInputAnswer : Mode → (Text → ℕ → ℕ → Status → List ℕ → Type 0)
+-- an answer of the command whose input is read in this mode, and which says this of a job
+abbrev pub IsInputAnswer : Mode → (Job → ℕ → ℕ → Status → List ℕ → Type 0)
     → List ℕ → ℕ → ℕ → Status → List ℕ → Type 0
 IsInputAnswer mode judges bytes before after status text =
     AnswersTooLong bytes before after status text

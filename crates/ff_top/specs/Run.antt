@@ -4,23 +4,15 @@ use Rattle.std.specs.Io.KnownBytes.{Appends, IsAtEnd}
 use Rattle.ff_io.specs.Bytes.{AppendsProperPrefix, TakesSome, TakesUpTo}
 use Rattle.ff_text.specs.declared.job.TheConstants.{MAX_BYTES}
 use Rattle.ff_text.specs.declared.layout.Mode.{Mode}
-use Rattle.ff_text.specs.declared.layout.Mode.TheVariants as mode
-use Rattle.ff_text.specs.Grammar.{Text}
 use Rattle.ff_top.specs.declared.status.Status.{Status}
 use Rattle.ff_top.specs.declared.status.Status.TheVariants.{ReadFault, WriteFault, NoMemory, Usage}
 use Rattle.ff_top.specs.Words.{IsCommand, HasCommand, usage_text, read_fault_text}
 use Rattle.ff_top.specs.Input.{IsInputAnswer}
-use Rattle.ff_top.specs.Check.{IsJudged}
+use Rattle.ff_top.specs.Commands.{Judges}
 
 -- the most bytes that a run takes from its source
 abbrev pub read_limit : ℕ
 read_limit = MAX_BYTES + 1
-
--- what a command says of a text without a fault: the counter `tests` before and after, the status
--- and the text that it answers
-abbrev pub Judges : Mode → Text → ℕ → ℕ → Status → List ℕ → Type 0
-Judges mode.Check v before after status text = IsJudged v before after status text
-Judges _ v before after status text = ⊥
 
 -- the words are no command, and nothing was read
 pub record AnswersUsage (words : List (List ℕ)) (old new : Option (List ℕ))

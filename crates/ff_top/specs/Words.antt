@@ -3,10 +3,11 @@ use Rattle.std.specs.Prelude.{◌≡◌, ◌++◌, ℕ, List, [], ◌∷◌, cod
 use Rattle.ff_text.specs.declared.layout.Mode.{Mode}
 use Rattle.ff_text.specs.declared.layout.Mode.TheVariants as mode
 
--- The words are the command whose input is read in this mode: `check` is the one word.
+-- The words are the command whose input is read in this mode: the one word `check`, or `order`.
 -- The other commands do not stand yet.
 abbrev pub IsCommand : List (List ℕ) → Mode → Type 0
 IsCommand words mode.Check = words ≡ codes "check" ∷ []
+IsCommand words mode.Order = words ≡ codes "order" ∷ []
 IsCommand words _ = ⊥
 
 -- the words are a command

@@ -3,8 +3,9 @@ ghost use Rattle.std.specs.Prelude.{◌≡◌, ◌+◌, length, IfOk};
 ghost use Rattle.std.specs.List.{All};
 ghost use Rattle.ff_theory.specs.PrimeTable.{prime_elements};
 ghost use Rattle.ff_prime.specs.Number.{number_of};
-ghost use Rattle.ff_top.specs.Check.{IsFraction, IsPairOf, IsSound, IsVerdict, TestsPairs};
-ghost use Rattle.ff_top.specs.Check.{verdict_text};
+ghost use Rattle.ff_data.specs.Pairs.{IsPair};
+ghost use Rattle.ff_top.specs.Check.{IsFraction, IsPairOf, IsSound, IsVerdict, TestsBack};
+ghost use Rattle.ff_top.specs.Check.{TestsPairs, verdict_text};
 ghost use Rattle.ff_top.specs.Input.{RisesOnceAtMost};
 
 use crate::Status;
@@ -50,8 +51,31 @@ fn are_inverse<L: Ledger>(
     ensures tests { RisesOnceAtMost tests.old tests.new }
 {
     let pair = pair_of(alloc, second, &elems[0], &elems[1])?;
-    let back = pair_of(alloc, first, &elems[2], &elems[3])?;
-    is_inverse(alloc, first, second, &pair, &back, tests)
+    are_back(alloc, first, second, &pair, &elems[2], &elems[3], tests)
+}
+
+// Whether the fractions U and V are the inverse pair of a pair.
+fn are_back<L: Ledger>(
+    alloc: Global,
+    first: &Alg<Prime>,
+    second: &Alg<Prime>,
+    pair: &Pair,
+    u: &RawElem,
+    v: &RawElem,
+    tests: &mut Steps<L>,
+) -> Result<bool, NoMemory>
+    requires field { first.now.k ≡ second.now.k }
+    requires pair { let L = ⟦<Prime as Ring>⟧.lawful second.now.k in
+        IsPair L second.now.f pair.now }
+    requires u { IsFraction (prime_elements (number_of second.now.k)) u.now }
+    requires v { IsFraction (prime_elements (number_of second.now.k)) v.now }
+    ensures answer { let L = ⟦<Prime as Ring>⟧.lawful second.now.k in
+        IfOk result (TestsBack L first.now.f second.now.f u.now v.now pair.now) }
+    ensures ticked { IfOk result (λ _. tests.new ≡ tests.old + 1) }
+    ensures tests { RisesOnceAtMost tests.old tests.new }
+{
+    let back = pair_of(alloc, first, u, v)?;
+    is_inverse(alloc, first, second, pair, &back, tests)
 }
 
 // The pair of an algebra that two fractions are.

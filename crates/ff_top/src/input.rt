@@ -1,13 +1,13 @@
 // The answer to the bytes of an input.
 ghost use Rattle.std.specs.Prelude.{◌≡◌, ◌≢◌, IfOk};
 ghost use Rattle.ff_text.specs.Printed.{fault_text, HasText};
-ghost use Rattle.ff_top.specs.Check.{IsJudged};
+ghost use Rattle.ff_top.specs.Commands.{Judges, mode_of};
 ghost use Rattle.ff_top.specs.Input.{IsInputAnswer, RisesOnceAtMost, status_of};
 
 use crate::Status;
-use crate::check::judge;
+use crate::command::Command;
 use ff_alg::{NoMemory, Steps};
-use ff_text::{MAX_BYTES, Mode, TextFault, print_fault, read_input};
+use ff_text::{MAX_BYTES, TextFault, print_fault, read_input};
 use std::alloc::Global;
 use std::sync::ledger::Ledger;
 
@@ -18,15 +18,18 @@ pub struct Answer {
     pub text: Vec<u8>,
 }
 
-/// The answer of `check` to the bytes that were read, `MAX_BYTES` and one where there are more.
+/// The answer of a command to the bytes that were read, `MAX_BYTES` and one where there are more.
 ///
-/// A verdict ticks `tests` once, and no other answer ticks it. `NoMemory` is the only error.
+/// A verdict of `check` ticks `tests` once, and no other answer ticks it. `NoMemory` is the only
+/// error.
 pub fn answer_of<L: Ledger>(
     alloc: Global,
+    command: Command,
     bytes: &[u8],
     tests: &mut Steps<L>,
 ) -> Result<Answer, NoMemory>
-    ensures answer { let answers = IsInputAnswer Mode.Check IsJudged bytes.now in
+    ensures answer { let mode = mode_of command in
+        let answers = IsInputAnswer mode (Judges mode) bytes.now in
         IfOk result (λ a. answers tests.old tests.new a.status a.text.items) }
     ensures tests { RisesOnceAtMost tests.old tests.new }
 {
@@ -39,8 +42,8 @@ pub fn answer_of<L: Ledger>(
             text,
         });
     }
-    match read_input(alloc, bytes, Mode::Check) {
-        Ok(job) => judge(alloc, &job, tests),
+    match read_input(alloc, bytes, command.mode()) {
+        Ok(job) => command.judge(alloc, &job, tests),
         Err(fault) => refuse(alloc, &fault),
     }
 }

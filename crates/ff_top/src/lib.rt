@@ -2,7 +2,9 @@
 #![tactic(auto)]
 
 mod check;
+mod command;
 mod input;
+mod order;
 mod status;
 mod top;
 mod word;

@@ -1,25 +1,27 @@
 // The top call.
-ghost use Rattle.std.specs.Prelude.{◌≡◌, ◌≢◌, ◌≤◌, ◌↔◌, ◌⊎◌, map, IfOk, OnErr, IsTrue};
+ghost use Rattle.std.specs.Prelude.{◌≡◌, ◌≢◌, ◌≤◌, ◌⊎◌, map, IfOk, OnErr};
 ghost use Rattle.ff_io.specs.Bytes.{TakesSome};
 ghost use Rattle.ff_io.specs.Causes.{Rose};
+ghost use Rattle.ff_top.specs.Commands.{mode_of};
 ghost use Rattle.ff_top.specs.Input.{RisesOnceAtMost};
-ghost use Rattle.ff_top.specs.Words.{HasCommand, IsCommand};
+ghost use Rattle.ff_top.specs.Words.{HasCommand};
 ghost use Rattle.ff_top.specs.Run.{Ends, IsAnswer, IsReadAnswer, Writes, read_limit};
 
+use crate::command::Command;
 use crate::input::{Answer, answer_of};
 use crate::{Status, Word};
 use ff_alg::{NoMemory, Steps};
 use ff_io::{Failed, ReadStop, Sink, Source, read_up_to, write_all};
-use ff_text::{MAX_BYTES, Mode};
+use ff_text::MAX_BYTES;
 use std::alloc::Global;
 use std::sync::ledger::Ledger;
 
 /// Does all that the program does: reads the words, then the source where the command asks for it,
 /// computes the whole text of the answer, writes it to the sink and answers the status.
 ///
-/// The command is the one word `check`. Other words are answered by the usage text, with nothing
-/// read. `tests` is ticked once for a verdict, written or not, and for no other answer. Where the
-/// answer is `NoMemory`, nothing was written.
+/// The command is one word, `check` or `order`. Other words are answered by the usage text, with
+/// nothing read. `tests` is ticked once for a verdict of `check`, written or not, and for no other
+/// answer. Where the answer is `NoMemory`, nothing was written.
 pub fn run<S: Source, T: Sink, L: Ledger, M: Ledger>(
     alloc: Global,
     words: &[Word],
@@ -52,42 +54,34 @@ pub fn run<S: Source, T: Sink, L: Ledger, M: Ledger>(
     ensures write_fault { let rose = Rose (T.faults sink.old) (T.faults sink.new) in
         result ≡ Status.WriteFault → rose }
 {
-    if !is_check(words) {
-        let usage = "usage: iso | aut | check | order | make N\n".as_bytes();
-        return write_text(sink, Status::Usage, usage);
-    }
-    match answer_to(alloc, source, tests) {
-        Ok(answer) => write_text(sink, answer.status, &answer.text),
-        Err(NoMemory) => Status::NoMemory,
-    }
-}
-
-// Whether the words are the one word `check`.
-fn is_check(words: &[Word]) -> bool
-    ensures { let words = map (λ w. w.text) words.now in
-        IsTrue result ↔ IsCommand words Mode.Check }
-{
-    match words {
-        [word] => word.is("check"),
-        _ => false,
+    match Command::of(words) {
+        None => {
+            let usage = "usage: iso | aut | check | order | make N\n".as_bytes();
+            write_text(sink, Status::Usage, usage)
+        }
+        Some(command) => match answer_to(alloc, command, source, tests) {
+            Ok(answer) => write_text(sink, answer.status, &answer.text),
+            Err(NoMemory) => Status::NoMemory,
+        },
     }
 }
 
-// Reads the source, and computes the answer of `check` to what it gave.
+// Reads the source, and computes the answer of a command to what it gave.
 fn answer_to<S: Source, L: Ledger>(
     alloc: Global,
+    command: Command,
     source: &mut S,
     tests: &mut Steps<L>,
 ) -> Result<Answer, NoMemory>
     ensures later { S.faults source.old ≤ S.faults source.new }
     ensures answer { let rose = Rose (S.faults source.old) (S.faults source.new) in
-        let answers = IsReadAnswer Mode.Check (S.left source.old) (S.left source.new) rose in
+        let answers = IsReadAnswer (mode_of command) (S.left source.old) (S.left source.new) rose in
         IfOk result (λ a. answers tests.old tests.new a.status a.text.items) }
     ensures lost { OnErr result (TakesSome read_limit (S.left source.old) (S.left source.new)) }
     ensures tests { RisesOnceAtMost tests.old tests.new }
 {
     match read_up_to(alloc, source, MAX_BYTES + 1) {
-        Ok(bytes) => answer_of(alloc, &bytes, tests),
+        Ok(bytes) => answer_of(alloc, command, &bytes, tests),
         Err(ReadStop::Fault) => {
             let text = "read fault\n".as_bytes().to_vec(alloc)?;
             Ok(Answer {

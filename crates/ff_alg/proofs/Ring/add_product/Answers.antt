@@ -10,7 +10,9 @@ loop-i-init g c =
     record {
       len = refl;
       each = c.requires.sum;
-      value = rows-start K.ring (g.met.Self.Ring.laws c.args.self.now) (g.met.Self.Ring.tests c.args.self.now) K.value (poly_of K c.args.sum.now) (poly_of K c.args.b.now) c.args.a.now;
+      value = rows-start K.ring (g.met.Self.Ring.laws c.args.self.now)
+          (g.met.Self.Ring.tests c.args.self.now) K.value (poly_of K c.args.sum.now)
+          (poly_of K c.args.b.now) c.args.a.now;
     }
 
 pub loop-i-preserved : goal.loop-i-preserved
@@ -23,11 +25,18 @@ loop-i-preserved g c =
     record {
       len = c.add_scaled.ensures.len ∙ c.loop-i.invariant.len;
       each = c.add_scaled.ensures.each;
-      value = rows-step K.ring laws tests (poly_of K c.args.sum.now) (poly_of K c.loop-i.sum) (poly_of K c.add_scaled.new.sum) (monomial K.ring (K.value x) i) (poly_of K (take i c.args.a.now)) (poly_of K (take (i + 1) c.args.a.now)) (poly_of K c.args.b.now)
-          c.add_scaled.ensures.value c.loop-i.invariant.value (take-suc K.ring laws tests K.value c.args.a.now i (i + 1) x (omega arith) c.index-a-i.is (omega arith));
+      value = rows-step K.ring laws tests (poly_of K c.args.sum.now) (poly_of K c.loop-i.sum)
+          (poly_of K c.add_scaled.new.sum) (monomial K.ring (K.value x) i)
+          (poly_of K (take i c.args.a.now)) (poly_of K (take (i + 1) c.args.a.now))
+          (poly_of K c.args.b.now)
+          c.add_scaled.ensures.value c.loop-i.invariant.value
+          (take-suc K.ring laws tests K.value c.args.a.now i (i + 1) x (omega arith) c.index-a-i.is
+          (omega arith));
     }
 
 pub returns-clause-value : goal.returns-clause-value
 returns-clause-value g c =
     let K = g.Self.Ring.elements c.args.self.now in
-    rows-end K.ring (g.met.Self.Ring.laws c.args.self.now) (g.met.Self.Ring.tests c.args.self.now) K.value (poly_of K c.args.sum.now) (poly_of K c.loop-i.sum) (poly_of K c.args.b.now) c.args.a.now c.loop-i.i (omega arith) c.loop-i.invariant.value
+    rows-end K.ring (g.met.Self.Ring.laws c.args.self.now) (g.met.Self.Ring.tests c.args.self.now)
+    K.value (poly_of K c.args.sum.now) (poly_of K c.loop-i.sum) (poly_of K c.args.b.now)
+    c.args.a.now c.loop-i.i (omega arith) c.loop-i.invariant.value

@@ -10,5 +10,6 @@ invariant-loop-i g l =
     record {
       len : length l.sum ≡ length l.fn.sum;
       each : All (IsElement K) l.sum;
-      value : poly_of K l.sum ≡ (polynomials K.ring).add (poly_of K l.fn.sum) ((polynomials K.ring).mul (poly_of K (take l.i l.a)) (poly_of K l.b));
+      value : poly_of K l.sum ≡ (polynomials K.ring).add (poly_of K l.fn.sum)
+          ((polynomials K.ring).mul (poly_of K (take l.i l.a)) (poly_of K l.b));
     }

@@ -10,6 +10,9 @@ invariant-loop-j g l =
     record {
       len : length l.sum ≡ length l.fn.sum;
       each : All (IsElement K) l.sum;
-      below : (i : ℕ) → i < l.at + l.j → coeff K.ring (map K.value l.sum) i ≡ K.add (coeff K.ring (map K.value l.fn.sum) i) (coeff K.ring (raised K.ring l.at (list_scale K.ring (K.value l.c) (map K.value l.b))) i);
-      above : (i : ℕ) → l.at + l.j ≤ i → coeff K.ring (map K.value l.sum) i ≡ coeff K.ring (map K.value l.fn.sum) i;
+      below : (i : ℕ) → i < l.at + l.j → coeff K.ring (map K.value l.sum) i
+          ≡ K.add (coeff K.ring (map K.value l.fn.sum) i)
+          (coeff K.ring (raised K.ring l.at (list_scale K.ring (K.value l.c) (map K.value l.b))) i);
+      above : (i : ℕ) → l.at + l.j ≤ i → coeff K.ring (map K.value l.sum) i
+          ≡ coeff K.ring (map K.value l.fn.sum) i;
     }

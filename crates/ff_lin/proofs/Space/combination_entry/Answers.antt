@@ -1,7 +1,8 @@
 use Rattle.std.proofs.Common.{ℕ, ◌<◌, List, length, get_or, ◌∙◌, ap, arith, Vec, Global}
 use Rattle.ff_theory.specs.Vector.{IsVector}
 use Rattle.ff_lin.specs.Space.{SpaceParts}
-use Rattle.ff_lin.proofs.Steps.{pivot_inside, row_vector, element_at, row_is, index_in, combined_step}
+use Rattle.ff_lin.proofs.Steps.{pivot_inside, row_vector, element_at, row_is, index_in}
+use Rattle.ff_lin.proofs.Steps.{combined_step}
 use Rattle.ff_lin.proofs.Space.combination_entry.Goals as goal
 
 pub loop-i-preserved : goal.loop-i-preserved
@@ -33,7 +34,8 @@ bounds-v-index g c =
     pivot_inside K s c.loop-i.i c.index.result.now c.requires.space
     (index_in (λ v. v.items) c.self.inside.basis.items s.basis c.loop-i.i
     (ap (λ (t : SpaceParts). t.basis) c.self.view_is) (omega arith))
-    (c.index.ensures ∙ ap (λ (t : SpaceParts). get_or t.pivots c.loop-i.i c.index.result.now) c.self.view_is)
+    (c.index.ensures ∙ ap (λ (t : SpaceParts). get_or t.pivots c.loop-i.i c.index.result.now)
+    c.self.view_is)
     in
     omega (arith, inside, c.requires.v.len)
 
@@ -62,7 +64,8 @@ mul-requires g c =
     pivot_inside K s c.loop-i.i c.index.result.now c.requires.space
     (index_in items c.self.inside.basis.items s.basis c.loop-i.i
     (ap (λ (t : SpaceParts). t.basis) c.self.view_is) (omega arith))
-    (c.index.ensures ∙ ap (λ (t : SpaceParts). get_or t.pivots c.loop-i.i c.index.result.now) c.self.view_is)
+    (c.index.ensures ∙ ap (λ (t : SpaceParts). get_or t.pivots c.loop-i.i c.index.result.now)
+    c.self.view_is)
     in
     record {
       a = c.requires.v.each c.index.result.now 0 (omega (arith, inside, c.requires.v.len));

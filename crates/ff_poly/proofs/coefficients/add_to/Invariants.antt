@@ -9,6 +9,8 @@ invariant-loop-i g l =
     record {
       len : length l.sum ≡ length l.fn.sum;
       each : All (IsElement K) l.sum;
-      below : (i : ℕ) → i < l.i → coeff K.ring (map K.value l.sum) i ≡ K.add (coeff K.ring (map K.value l.fn.sum) i) (coeff K.ring (map K.value l.b) i);
-      above : (i : ℕ) → l.i ≤ i → coeff K.ring (map K.value l.sum) i ≡ coeff K.ring (map K.value l.fn.sum) i;
+      below : (i : ℕ) → i < l.i → coeff K.ring (map K.value l.sum) i
+          ≡ K.add (coeff K.ring (map K.value l.fn.sum) i) (coeff K.ring (map K.value l.b) i);
+      above : (i : ℕ) → l.i ≤ i → coeff K.ring (map K.value l.sum) i
+          ≡ coeff K.ring (map K.value l.fn.sum) i;
     }

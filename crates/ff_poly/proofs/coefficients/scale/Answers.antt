@@ -16,13 +16,17 @@ loop-i-preserved g c =
     let old = map K.value c.args.list.now in
     let bound : i < length c.loop-i.list = omega (arith, c.loop-i.invariant.len) in
     let v : K.value c.mul.result ≡ K.mul a (coeff K.ring old i) =
-    c.mul.ensures.value ∙ ap (K.mul a) (entry_at K c.loop-i.list i 0 bound ∙ c.loop-i.invariant.above i (omega arith))
+    c.mul.ensures.value ∙ ap (K.mul a) (entry_at K c.loop-i.list i 0 bound
+    ∙ c.loop-i.invariant.above i (omega arith))
     in
     record {
       len = length-set c.loop-i.list i c.mul.result ∙ c.loop-i.invariant.len;
-      each = All-set (IsElement K) c.loop-i.list i c.mul.result c.mul.ensures.element c.loop-i.invariant.each;
-      below = written-below K.ring K.value c.loop-i.list i (i + 1) c.mul.result (λ i. K.mul a (coeff K.ring old i)) bound refl c.loop-i.invariant.below v;
-      above = written-above K.ring K.value c.loop-i.list i (i + 1) c.mul.result (coeff K.ring old) refl c.loop-i.invariant.above;
+      each = All-set (IsElement K) c.loop-i.list i c.mul.result c.mul.ensures.element
+          c.loop-i.invariant.each;
+      below = written-below K.ring K.value c.loop-i.list i (i + 1) c.mul.result
+          (λ i. K.mul a (coeff K.ring old i)) bound refl c.loop-i.invariant.below v;
+      above = written-above K.ring K.value c.loop-i.list i (i + 1) c.mul.result (coeff K.ring old)
+          refl c.loop-i.invariant.above;
     }
 
 pub returns-clause-value : goal.returns-clause-value
@@ -32,5 +36,7 @@ returns-clause-value g c =
     let a = K.value c.args.c in
     let old = map K.value c.args.list.now in
     scale_by_coeffs K.ring laws (g.met.K.Ring.tests c.args.k.now) a old (map K.value c.loop-i.list)
-    (written K.ring K.value c.loop-i.list c.loop-i.i (λ i. K.mul a (coeff K.ring old i)) (coeff K.ring old) c.loop-i.invariant.below c.loop-i.invariant.above
-    (λ i l. scale-past K.ring laws (g.met.K.Ring.tests c.args.k.now) K.value a c.args.list.now i (omega (arith, c.loop-i.invariant.len, l))))
+    (written K.ring K.value c.loop-i.list c.loop-i.i (λ i. K.mul a (coeff K.ring old i))
+    (coeff K.ring old) c.loop-i.invariant.below c.loop-i.invariant.above
+    (λ i l. scale-past K.ring laws (g.met.K.Ring.tests c.args.k.now) K.value a c.args.list.now i
+    (omega (arith, c.loop-i.invariant.len, l))))

@@ -9,6 +9,8 @@ invariant-loop-i g l =
     record {
       len : length l.list ≡ length l.fn.list;
       each : All (IsElement K) l.list;
-      below : (i : ℕ) → i < l.i → coeff K.ring (map K.value l.list) i ≡ K.mul (K.value l.c) (coeff K.ring (map K.value l.fn.list) i);
-      above : (i : ℕ) → l.i ≤ i → coeff K.ring (map K.value l.list) i ≡ coeff K.ring (map K.value l.fn.list) i;
+      below : (i : ℕ) → i < l.i → coeff K.ring (map K.value l.list) i
+          ≡ K.mul (K.value l.c) (coeff K.ring (map K.value l.fn.list) i);
+      above : (i : ℕ) → l.i ≤ i → coeff K.ring (map K.value l.list) i
+          ≡ coeff K.ring (map K.value l.fn.list) i;
     }

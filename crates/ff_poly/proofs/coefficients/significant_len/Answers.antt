@@ -21,10 +21,13 @@ loop-n-preserved g c =
     let test : K.same (K.value d) K.zero ≡ true = cc in
     record {
       below = omega arith;
-      value = poly_ext K.ring laws tests (map K.value (take (n - 1) list)) (map K.value (take n list)) (kept_same K.ring tests K.value list n 0 (omega arith) (omega arith) test) ∙ c.loop-n.invariant.value;
+      value = poly_ext K.ring laws tests (map K.value (take (n - 1) list))
+          (map K.value (take n list)) (kept_same K.ring tests K.value list n 0 (omega arith)
+          (omega arith) test) ∙ c.loop-n.invariant.value;
     }
 
 pub returns-clause-value : goal.returns-clause-value
 returns-clause-value g c =
     let none : 0 ≡ c.loop-n.n = omega arith in
-    ap (λ n. poly_of (g.K.Ring.elements c.args.k.now) (take n c.args.list.now)) none ∙ c.loop-n.invariant.value
+    ap (λ n. poly_of (g.K.Ring.elements c.args.k.now) (take n c.args.list.now)) none
+    ∙ c.loop-n.invariant.value

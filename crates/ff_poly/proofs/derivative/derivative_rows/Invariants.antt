@@ -13,5 +13,6 @@ invariant-loop-i g l =
       each : ArePolys K l.multiples.items;
       element : IsElement K l.factor;
       factor : K.value l.factor ≡ multiple K.ring (length l.multiples.items) K.one;
-      rows : (j : ℕ) → j < length l.multiples.items → coeff P (polys_of K l.multiples.items) j ≡ multiple P (suc j) (coeff P (polys_of K l.rows) (suc j));
+      rows : (j : ℕ) → j < length l.multiples.items → coeff P (polys_of K l.multiples.items) j
+          ≡ multiple P (suc j) (coeff P (polys_of K l.rows) (suc j));
     }

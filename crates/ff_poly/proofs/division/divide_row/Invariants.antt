@@ -11,5 +11,8 @@ invariant-loop-at g l =
     record {
       len : length l.row ≡ length l.fn.row;
       each : All (IsElement K) l.row;
-      value : poly_of K l.fn.row ≡ (polynomials K.ring).add ((polynomials K.ring).mul (poly K.ring (raised K.ring l.at (map K.value (drop (l.at + l.degree) l.row)))) (poly_of K l.b)) (poly_of K (take (l.at + l.degree) l.row));
+      value : poly_of K l.fn.row ≡ (polynomials K.ring).add
+          ((polynomials K.ring).mul (poly K.ring
+          (raised K.ring l.at (map K.value (drop (l.at + l.degree) l.row)))) (poly_of K l.b))
+          (poly_of K (take (l.at + l.degree) l.row));
     }

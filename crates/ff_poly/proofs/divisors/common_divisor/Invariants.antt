@@ -11,7 +11,8 @@ invariant-loop-divisor g l =
     record {
       divisor : IsPoly K l.divisor;
       rest : IsPoly K l.rest;
-      same : (g : Poly K.ring) → IsGcd (polynomials K.ring) (poly_of K l.divisor) (poly_of K l.rest) g → IsGcd (polynomials K.ring) (poly_of K l.fn.a) (poly_of K l.fn.b) g;
+      same : (g : Poly K.ring) → IsGcd (polynomials K.ring) (poly_of K l.divisor) (poly_of K l.rest)
+          g → IsGcd (polynomials K.ring) (poly_of K l.fn.a) (poly_of K l.fn.b) g;
     }
 
 abbrev pub decreases-loop-divisor : goal.decreases-loop-divisor

@@ -12,5 +12,8 @@ returns-clause-value g c =
     let laws = g.met.K.Ring.laws c.args.k.now in
     let tests = g.met.K.Ring.tests c.args.k.now in
     c.add_to.ensures.value
-    ∙ ap (λ t. (polynomials K.ring).add t (poly_of K c.args.a.now)) (ap (poly_of K) (c.fill.ensures.after (λ y e. e)) ∙ replicate-zero K.ring laws tests K.value (length c.args.out.now) c.zero.result c.zero.ensures.value)
+    ∙ ap (λ t. (polynomials K.ring).add t (poly_of K c.args.a.now))
+    (ap (poly_of K) (c.fill.ensures.after (λ y e. e))
+    ∙ replicate-zero K.ring laws tests K.value (length c.args.out.now) c.zero.result
+    c.zero.ensures.value)
     ∙ zero_add (polynomials K.ring) (polynomial_laws K.ring laws tests) (poly_of K c.args.a.now)

@@ -9,5 +9,8 @@ returns-clause-value g c =
     let K = g.K.Ring.elements c.args.k.now in
     let laws = g.met.K.Ring.laws c.args.k.now in
     let tests = g.met.K.Ring.tests c.args.k.now in
-    c.add_product.ensures.value ∙ add_to_zeros K.ring laws tests (poly_of K c.fill.new.self) (poly_of K c.args.a.now) (poly_of K c.args.b.now)
-    (ap (poly_of K) (c.fill.ensures.after (λ y e. e)) ∙ replicate-zero K.ring laws tests K.value (length c.args.out.now) c.zero.result c.zero.ensures.value)
+    c.add_product.ensures.value ∙ add_to_zeros K.ring laws tests (poly_of K c.fill.new.self)
+    (poly_of K c.args.a.now) (poly_of K c.args.b.now)
+    (ap (poly_of K) (c.fill.ensures.after (λ y e. e))
+    ∙ replicate-zero K.ring laws tests K.value (length c.args.out.now) c.zero.result
+    c.zero.ensures.value)

@@ -9,5 +9,6 @@ invariant-loop-j g l =
     record {
       len : length l.list.items ≡ l.j;
       each : All (IsElement K) l.list.items;
-      entries : (i : ℕ) → i < l.j → coeff K.ring (map K.value l.list.items) i ≡ coeff K.ring (map K.value l.p) (l.m - i);
+      entries : (i : ℕ) → i < l.j → coeff K.ring (map K.value l.list.items) i
+          ≡ coeff K.ring (map K.value l.p) (l.m - i);
     }

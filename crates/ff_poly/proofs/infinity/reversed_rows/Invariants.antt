@@ -11,5 +11,6 @@ invariant-loop-i g l =
     record {
       len : length l.reversed.items ≡ l.i;
       each : ArePolys K l.reversed.items;
-      rows : (j : ℕ) → j < l.i → coeff P (polys_of K l.reversed.items) j ≡ reversal K.ring ((l.n - j) * l.e) (coeff P (polys_of K l.rows) j);
+      rows : (j : ℕ) → j < l.i → coeff P (polys_of K l.reversed.items) j
+          ≡ reversal K.ring ((l.n - j) * l.e) (coeff P (polys_of K l.rows) j);
     }

@@ -8,7 +8,8 @@ use Rattle.ff_poly.proofs.infinity.slope_of.Goals as goal
 
 pub row_slope-requires-clause-len : goal.row_slope-requires-clause-len
 row_slope-requires-clause-len g c =
-    let short = item-length c.args.rows.now c.loop-i.i c.index-rows-i.result (omega arith) c.index-rows-i.is in
+    let short = item-length c.args.rows.now c.loop-i.i c.index-rows-i.result (omega arith)
+    c.index-rows-i.is in
     omega (arith, short, c.requires.width, ap length c.coeffs.ensures)
 
 pub loop-i-preserved : goal.loop-i-preserved
@@ -17,12 +18,17 @@ loop-i-preserved g c =
     let rows = c.args.rows.now in
     let i = c.loop-i.i in
     let n = length rows - 1 in
-    let row = ap (λ p. quotient_up (length p - 1) (n - i)) (c.coeffs.ensures ∙ c.index-rows-i.is ∙ get_or_default rows i c.index-rows-i.result [] (omega arith)) in
-    c.max-e.ensures ∙ ord_max-max c.loop-i.e c.row_slope.result ∙ ap₂ max c.loop-i.invariant (c.row_slope.ensures ∙ row)
-    ∙ slope-step K (g.met.K.Ring.laws c.args.k.now) (g.met.K.Ring.tests c.args.k.now) rows n i _ c.requires.plane (omega arith) (omega arith)
+    let row = ap (λ p. quotient_up (length p - 1) (n - i))
+    (c.coeffs.ensures ∙ c.index-rows-i.is ∙ get_or_default rows i c.index-rows-i.result []
+    (omega arith)) in
+    c.max-e.ensures ∙ ord_max-max c.loop-i.e c.row_slope.result
+    ∙ ap₂ max c.loop-i.invariant (c.row_slope.ensures ∙ row)
+    ∙ slope-step K (g.met.K.Ring.laws c.args.k.now) (g.met.K.Ring.tests c.args.k.now) rows n i _
+    c.requires.plane (omega arith) (omega arith)
 
 pub returns : goal.returns
 returns g c =
     let K = g.K.Ring.elements c.args.k.now in
     let end : c.loop-i.i ≡ length c.args.rows.now - 1 = omega arith in
-    c.loop-i.invariant ∙ ap (slope_below K.ring (length c.args.rows.now - 1) (plane_of K c.args.rows.now)) end
+    c.loop-i.invariant ∙ ap (slope_below K.ring (length c.args.rows.now - 1)
+    (plane_of K c.args.rows.now)) end

@@ -8,5 +8,6 @@ invariant-loop-num g l =
     let K = g.K.Ring.elements l.k in
     record {
       poly : IsPoly K l.divisor;
-      gcd : IsGcdOfAll (polynomials K.ring) (poly_of K l.den) (polys_of K l.nums) l.num-index (poly_of K l.divisor);
+      gcd : IsGcdOfAll (polynomials K.ring) (poly_of K l.den) (polys_of K l.nums) l.num-index
+          (poly_of K l.divisor);
     }

@@ -7,5 +7,6 @@ invariant-loop-p g l =
     let K = g.K.Ring.elements l.k in
     record {
       each : All (λ p. IsPoly K p) l.quotients.items;
-      value : products_with K (poly_of K l.b) l.quotients.items ≡ polys_of K (take l.p-index l.list);
+      value : products_with K (poly_of K l.b) l.quotients.items
+          ≡ polys_of K (take l.p-index l.list);
     }

@@ -13,8 +13,11 @@ monic_row-requires g c =
     let K = g.K.Ring.elements c.args.k.now in
     let rows = c.args.rows.now in
     record {
-      row = subst (IsPoly K) (sym c.index-rows-i.is) (c.requires.plane.each c.loop-i.i c.index-rows-i.result (omega arith));
-      lead = subst (IsPoly K) (sym c.index-rows-n.is) (c.requires.plane.each (length rows - 1) c.index-rows-n.result (omega (arith, c.requires.has_y)));
+      row = subst (IsPoly K) (sym c.index-rows-i.is)
+          (c.requires.plane.each c.loop-i.i c.index-rows-i.result (omega arith));
+      lead = subst (IsPoly K) (sym c.index-rows-n.is)
+          (c.requires.plane.each (length rows - 1) c.index-rows-n.result
+          (omega (arith, c.requires.has_y)));
     }
 
 pub loop-i-preserved : goal.loop-i-preserved
@@ -27,22 +30,33 @@ loop-i-preserved g c =
     let e = c.in_ok-push.ensures.items in
     let i = c.loop-i.i in
     let row = c.in_ok-monic_row.field-0 in
-    let item = ap (poly_of K) c.index-rows-i.is ∙ sym (coeff-map P (λ p. poly_of K p) rows i c.index-rows-i.result (omega arith)) in
-    let lead = ap (poly_of K) c.index-rows-n.is ∙ sym (coeff-map P (λ p. poly_of K p) rows n c.index-rows-n.result (omega (arith, c.requires.has_y))) in
-    let v : poly_of K row ≡ (polynomials K.ring).mul (coeff P a i) (power P (coeff P a n) (n - 1 - i)) =
-    c.in_ok-monic_row.ensures.value ∙ ap₂ (λ x y. (polynomials K.ring).mul x (power P y (n - 1 - i))) item lead
+    let item = ap (poly_of K) c.index-rows-i.is ∙ sym
+    (coeff-map P (λ p. poly_of K p) rows i c.index-rows-i.result (omega arith)) in
+    let lead = ap (poly_of K) c.index-rows-n.is ∙ sym
+    (coeff-map P (λ p. poly_of K p) rows n c.index-rows-n.result (omega (arith, c.requires.has_y)))
+    in
+    let v : poly_of K row ≡ (polynomials K.ring).mul (coeff P a i)
+    (power P (coeff P a n) (n - 1 - i)) =
+    c.in_ok-monic_row.ensures.value ∙ ap₂
+    (λ x y. (polynomials K.ring).mul x (power P y (n - 1 - i))) item lead
     in
     record {
-      each = subst (All (λ p. IsPoly K p)) (sym e) (All-push (λ p. IsPoly K p) c.loop-i.form.items row c.loop-i.invariant.each c.in_ok-monic_row.ensures.poly);
+      each = subst (All (λ p. IsPoly K p)) (sym e)
+          (All-push (λ p. IsPoly K p) c.loop-i.form.items row c.loop-i.invariant.each
+          c.in_ok-monic_row.ensures.poly);
       length = omega (arith, c.in_ok-push.ensures.len, c.loop-i.invariant.length);
       rows = λ j l. ap (λ p. coeff P (map (λ p. poly_of K p) p) j) e
-          ∙ coeff-push P (λ p. poly_of K p) c.loop-i.form.items row (λ j. (polynomials K.ring).mul (coeff P a j) (power P (coeff P a n) (n - 1 - j))) i c.loop-i.invariant.length c.loop-i.invariant.rows v j l;
+          ∙ coeff-push P (λ p. poly_of K p) c.loop-i.form.items row
+          (λ j. (polynomials K.ring).mul (coeff P a j) (power P (coeff P a n) (n - 1 - j))) i
+          c.loop-i.invariant.length c.loop-i.invariant.rows v j l;
     }
 
 pub returns-clause-each : goal.returns-clause-each
 returns-clause-each g c =
     let K = g.K.Ring.elements c.args.k.now in
-    subst (All (λ p. IsPoly K p)) (sym c.in_ok-push-2.ensures.items) (All-push (λ p. IsPoly K p) c.loop-i.form.items c.in_ok-one.field-0 c.loop-i.invariant.each c.in_ok-one.ensures.poly)
+    subst (All (λ p. IsPoly K p)) (sym c.in_ok-push-2.ensures.items)
+    (All-push (λ p. IsPoly K p) c.loop-i.form.items c.in_ok-one.field-0 c.loop-i.invariant.each
+    c.in_ok-one.ensures.poly)
 
 pub returns-clause-value : goal.returns-clause-value
 returns-clause-value g c =
@@ -56,7 +70,15 @@ returns-clause-value g c =
     let one = c.in_ok-one.field-0 in
     let e = c.in_ok-push-2.ensures.items in
     let end : c.loop-i.i ≡ n = omega arith in
-    monic_by_loop P (polynomial_laws K.ring laws tests) (polynomial_tests K.ring laws tests) (λ p. poly_of K p) rows c.push-2.new.self.items (coeff P (map (λ p. poly_of K p) rows) n) n
-    (omega (arith, c.requires.has_y)) (omega (arith, c.in_ok-push-2.ensures.len, c.loop-i.invariant.length, end)) c.requires.plane.canonical refl
-    (λ i l. ap (λ p. coeff P (map (λ p. poly_of K p) p) i) e ∙ pushed-below P (λ p. poly_of K p) form one i (omega (arith, c.loop-i.invariant.length, end, l)) ∙ c.loop-i.invariant.rows i (omega (arith, end, l)))
-    (ap (λ p. coeff P (map (λ p. poly_of K p) p) n) e ∙ pushed-at P (λ p. poly_of K p) form one n (omega (arith, c.loop-i.invariant.length, end)) ∙ c.in_ok-one.ensures.value)
+    monic_by_loop P (polynomial_laws K.ring laws tests) (polynomial_tests K.ring laws tests)
+    (λ p. poly_of K p) rows c.push-2.new.self.items (coeff P (map (λ p. poly_of K p) rows) n) n
+    (omega (arith, c.requires.has_y)) (omega
+    (arith, c.in_ok-push-2.ensures.len, c.loop-i.invariant.length, end)) c.requires.plane.canonical
+    refl
+    (λ i l. ap (λ p. coeff P (map (λ p. poly_of K p) p) i) e
+    ∙ pushed-below P (λ p. poly_of K p) form one i
+    (omega (arith, c.loop-i.invariant.length, end, l))
+    ∙ c.loop-i.invariant.rows i (omega (arith, end, l)))
+    (ap (λ p. coeff P (map (λ p. poly_of K p) p) n) e
+    ∙ pushed-at P (λ p. poly_of K p) form one n (omega (arith, c.loop-i.invariant.length, end))
+    ∙ c.in_ok-one.ensures.value)

@@ -11,5 +11,7 @@ invariant-loop-i g l =
       each : All (λ p. IsPoly K p) l.form.items;
       length : length l.form.items ≡ l.i;
       rows : (j : ℕ) → j < l.i → coeff (polynomials K.ring) (map (λ p. poly_of K p) l.form.items) j
-          ≡ (polynomials K.ring).mul (coeff (polynomials K.ring) (map (λ p. poly_of K p) l.rows) j) (power (polynomials K.ring) (coeff (polynomials K.ring) (map (λ p. poly_of K p) l.rows) l.n) (l.n - 1 - j));
+          ≡ (polynomials K.ring).mul (coeff (polynomials K.ring) (map (λ p. poly_of K p) l.rows) j)
+          (power (polynomials K.ring) (coeff (polynomials K.ring) (map (λ p. poly_of K p) l.rows)
+          l.n) (l.n - 1 - j));
     }

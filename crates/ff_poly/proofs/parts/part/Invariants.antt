@@ -9,7 +9,9 @@ invariant-loop-at g l =
     record {
       at : l.at ≡ l.i + length l.roots.items * l.p;
       each : All (IsElement K) l.roots.items;
-      roots : (j : ℕ) → j < length l.roots.items → power K.ring (coeff K.ring (map K.value l.roots.items) j) K.characteristic ≡ coeff K.ring (map K.value l.c) (l.i + j * l.p);
+      roots : (j : ℕ) → j < length l.roots.items → power K.ring
+          (coeff K.ring (map K.value l.roots.items) j) K.characteristic
+          ≡ coeff K.ring (map K.value l.c) (l.i + j * l.p);
     }
 
 abbrev pub decreases-loop-at : goal.decreases-loop-at

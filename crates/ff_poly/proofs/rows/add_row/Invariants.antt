@@ -11,5 +11,8 @@ invariant-loop-j g l =
     record {
       len : length l.sum ≡ length l.fn.sum;
       each : All (IsElement K) l.sum;
-      value : poly_of K l.sum ≡ (polynomials K.ring).add (poly_of K l.fn.sum) (sum_below (polynomials K.ring) l.j (λ j. (polynomials K.ring).mul (coeff (polynomials K.ring) (map (λ p. poly_of K p) l.a) j) (coeff (polynomials K.ring) (map (λ p. poly_of K p) l.b) (l.i - j))));
+      value : poly_of K l.sum ≡ (polynomials K.ring).add (poly_of K l.fn.sum)
+          (sum_below (polynomials K.ring) l.j (λ j. (polynomials K.ring).mul
+          (coeff (polynomials K.ring) (map (λ p. poly_of K p) l.a) j)
+          (coeff (polynomials K.ring) (map (λ p. poly_of K p) l.b) (l.i - j))));
     }

@@ -12,9 +12,15 @@ loop-i-preserved g c =
     let P = polynomials K.ring in
     let e = c.in_ok-push.ensures.items in
     let row = c.in_ok-combination_row.field-0 in
-    let value = λ (n : ℕ). P.add (P.mul (poly_of K c.args.c.now) (coeff P (polys_of K c.args.a.now) n)) (P.mul (poly_of K c.args.t.now) (coeff P (raised P c.args.at (polys_of K c.args.b.now)) n)) in
+    let value = λ (n : ℕ). P.add (P.mul (poly_of K c.args.c.now)
+    (coeff P (polys_of K c.args.a.now) n))
+    (P.mul (poly_of K c.args.t.now) (coeff P (raised P c.args.at (polys_of K c.args.b.now)) n)) in
     record {
       len = omega (arith, c.in_ok-push.ensures.len, c.loop-i.invariant.len);
-      each = subst (All (λ p. IsPoly K p)) (sym e) (All-push (λ p. IsPoly K p) c.loop-i.rows.items row c.loop-i.invariant.each c.in_ok-combination_row.ensures.poly);
-      rows = λ j l. ap (λ p. coeff P (polys_of K p) j) e ∙ coeff-push P (λ p. poly_of K p) c.loop-i.rows.items row value c.loop-i.i c.loop-i.invariant.len c.loop-i.invariant.rows c.in_ok-combination_row.ensures.value j l;
+      each = subst (All (λ p. IsPoly K p)) (sym e)
+          (All-push (λ p. IsPoly K p) c.loop-i.rows.items row c.loop-i.invariant.each
+          c.in_ok-combination_row.ensures.poly);
+      rows = λ j l. ap (λ p. coeff P (polys_of K p) j) e
+          ∙ coeff-push P (λ p. poly_of K p) c.loop-i.rows.items row value c.loop-i.i
+          c.loop-i.invariant.len c.loop-i.invariant.rows c.in_ok-combination_row.ensures.value j l;
     }

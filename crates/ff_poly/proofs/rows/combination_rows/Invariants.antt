@@ -12,5 +12,6 @@ invariant-loop-i g l =
       len : length l.rows.items ≡ l.i;
       each : ArePolys K l.rows.items;
       rows : (j : ℕ) → j < l.i → coeff P (polys_of K l.rows.items) j
-          ≡ P.add (P.mul (poly_of K l.c) (coeff P (polys_of K l.a) j)) (P.mul (poly_of K l.t) (coeff P (raised P l.at (polys_of K l.b)) j));
+          ≡ P.add (P.mul (poly_of K l.c) (coeff P (polys_of K l.a) j))
+          (P.mul (poly_of K l.t) (coeff P (raised P l.at (polys_of K l.b)) j));
     }

@@ -10,7 +10,8 @@ use Rattle.ff_poly.proofs.rows.multiples.Goals as goal
 pub mul-requires : goal.mul-requires
 mul-requires g c =
     let K = g.K.Ring.elements c.args.k.now in
-    let item : IsPoly K c.p-item.result = subst (λ p. IsPoly K p) (sym c.p-item.is) (c.requires.rows c.loop-p.p-index c.p-item.result c.loop-p-test.true) in
+    let item : IsPoly K c.p-item.result = subst (λ p. IsPoly K p) (sym c.p-item.is)
+    (c.requires.rows c.loop-p.p-index c.p-item.result c.loop-p-test.true) in
     record { a = c.requires.c.each; b = item.each }
 
 pub loop-p-preserved : goal.loop-p-preserved
@@ -19,8 +20,14 @@ loop-p-preserved g c =
     let e = c.in_ok-push.ensures.items in
     record {
       len = omega (arith, c.in_ok-push.ensures.len, c.loop-p.invariant.len);
-      each = subst (All (λ p. IsPoly K p)) (sym e) (All-push (λ p. IsPoly K p) c.loop-p.multiples.items c.in_ok-mul.field-0 c.loop-p.invariant.each c.in_ok-mul.ensures.poly);
-      value = ap (map (λ p. poly_of K p)) e ∙ map_push (λ p. poly_of K p) (λ p. (polynomials K.ring).mul (poly_of K c.args.c.now) (poly_of K p)) c.loop-p.multiples.items c.in_ok-mul.field-0 c.args.rows.now c.loop-p.p-index c.p-item.result c.loop-p-test.true c.p-item.is c.loop-p.invariant.value c.in_ok-mul.ensures.value;
+      each = subst (All (λ p. IsPoly K p)) (sym e)
+          (All-push (λ p. IsPoly K p) c.loop-p.multiples.items c.in_ok-mul.field-0
+          c.loop-p.invariant.each c.in_ok-mul.ensures.poly);
+      value = ap (map (λ p. poly_of K p)) e ∙ map_push (λ p. poly_of K p)
+          (λ p. (polynomials K.ring).mul (poly_of K c.args.c.now) (poly_of K p))
+          c.loop-p.multiples.items c.in_ok-mul.field-0 c.args.rows.now c.loop-p.p-index
+          c.p-item.result c.loop-p-test.true c.p-item.is c.loop-p.invariant.value
+          c.in_ok-mul.ensures.value;
     }
 
 pub returns-clause-value : goal.returns-clause-value
@@ -28,5 +35,9 @@ returns-clause-value g c =
     let K = g.K.Ring.elements c.args.k.now in
     let laws = g.met.K.Ring.laws c.args.k.now in
     let tests = g.met.K.Ring.tests c.args.k.now in
-    mul_by_map (polynomials K.ring) (polynomial_laws K.ring laws tests) (polynomial_tests K.ring laws tests) (λ p. poly_of K p) (λ p. poly_of K p) (poly_of K c.args.c.now) c.args.rows.now c.loop-p.multiples.items
-    (map_whole (λ p. poly_of K p) (λ p. (polynomials K.ring).mul (poly_of K c.args.c.now) (poly_of K p)) c.loop-p.multiples.items c.args.rows.now c.loop-p.p-index c.loop-p-test.false c.loop-p.invariant.value)
+    mul_by_map (polynomials K.ring) (polynomial_laws K.ring laws tests)
+    (polynomial_tests K.ring laws tests) (λ p. poly_of K p) (λ p. poly_of K p)
+    (poly_of K c.args.c.now) c.args.rows.now c.loop-p.multiples.items
+    (map_whole (λ p. poly_of K p) (λ p. (polynomials K.ring).mul (poly_of K c.args.c.now)
+    (poly_of K p)) c.loop-p.multiples.items c.args.rows.now c.loop-p.p-index c.loop-p-test.false
+    c.loop-p.invariant.value)

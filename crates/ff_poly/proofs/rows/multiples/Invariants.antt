@@ -9,5 +9,7 @@ invariant-loop-p g l =
     record {
       len : length l.multiples.items ≡ l.p-index;
       each : All (λ p. IsPoly K p) l.multiples.items;
-      value : map (λ p. poly_of K p) l.multiples.items ≡ map (λ p. (polynomials K.ring).mul (poly_of K l.c) (poly_of K p)) (take l.p-index l.rows);
+      value : map (λ p. poly_of K p) l.multiples.items
+          ≡ map (λ p. (polynomials K.ring).mul (poly_of K l.c) (poly_of K p))
+          (take l.p-index l.rows);
     }

@@ -8,5 +8,6 @@ invariant-loop-p g l =
     let K = g.K.Ring.elements l.k in
     record {
       each : All (λ p. IsPoly K p) l.negatives.items;
-      value : map (λ p. poly_of K p) l.negatives.items ≡ map (λ p. (polynomials K.ring).neg (poly_of K p)) (take l.p-index l.rows);
+      value : map (λ p. poly_of K p) l.negatives.items
+          ≡ map (λ p. (polynomials K.ring).neg (poly_of K p)) (take l.p-index l.rows);
     }

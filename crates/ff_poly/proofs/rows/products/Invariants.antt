@@ -10,5 +10,8 @@ invariant-loop-i g l =
     record {
       each : All (λ p. IsPoly K p) l.products.items;
       length : length l.products.items ≡ l.i;
-      products : (j : ℕ) → j < l.i → coeff (polynomials K.ring) (map (λ p. poly_of K p) l.products.items) j ≡ series_mul (polynomials K.ring) (coeff (polynomials K.ring) (map (λ p. poly_of K p) l.a)) (coeff (polynomials K.ring) (map (λ p. poly_of K p) l.b)) j;
+      products : (j : ℕ) → j < l.i → coeff (polynomials K.ring)
+          (map (λ p. poly_of K p) l.products.items) j ≡ series_mul (polynomials K.ring)
+          (coeff (polynomials K.ring) (map (λ p. poly_of K p) l.a))
+          (coeff (polynomials K.ring) (map (λ p. poly_of K p) l.b)) j;
     }

@@ -9,5 +9,7 @@ invariant-loop-i g l =
     record {
       each : All (λ p. IsPoly K p) l.sums.items;
       length : length l.sums.items ≡ l.i;
-      sums : (j : ℕ) → j < l.i → coeff (polynomials K.ring) (map (λ p. poly_of K p) l.sums.items) j ≡ (polynomials K.ring).add (coeff (polynomials K.ring) (map (λ p. poly_of K p) l.a) j) (coeff (polynomials K.ring) (map (λ p. poly_of K p) l.b) j);
+      sums : (j : ℕ) → j < l.i → coeff (polynomials K.ring) (map (λ p. poly_of K p) l.sums.items) j
+          ≡ (polynomials K.ring).add (coeff (polynomials K.ring) (map (λ p. poly_of K p) l.a) j)
+          (coeff (polynomials K.ring) (map (λ p. poly_of K p) l.b) j);
     }

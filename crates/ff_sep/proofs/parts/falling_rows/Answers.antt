@@ -28,6 +28,7 @@ loop-i-preserved g c =
       length = omega (arith, c.in_ok-push.ensures.len, h.length);
       rows = λ j l. ap (λ p. coeff P (polys_of F p) j) e
           ∙ coeff-push P (poly_of F) items row
-          (λ j. P.mul (coeff P (polys_of F rows) j) (coeff P (polys_of F powers) (length rows - j))) i
+          (λ j. P.mul (coeff P (polys_of F rows) j) (coeff P (polys_of F powers) (length rows - j)))
+          i
           h.length h.rows (c.in_ok-mul.ensures.value ∙ ap₂ P.mul left right) j l;
     }

@@ -7,9 +7,13 @@ use Rattle.ff_data.specs.Substitution.{plane_at_pair}
 use Rattle.ff_subst.proofs.PairValues.{no_value, value_is}
 use Rattle.ff_subst.proofs.inverse.substitute.Goals as goal
 
+pub power_list-requires : goal.power_list-requires
+power_list-requires g c =
+    record { x = c.requires.pair.x; some = c.element_count.ensures }
+
 pub value_of_poly-requires : goal.value_of_poly-requires
 value_of_poly-requires g c =
-    record { x = c.requires.pair.x; p = c.requires.den }
+    record { at = c.in_ok-at.ensures.list; p = c.requires.den }
 
 pub returns-in-Ok-clause-value : goal.returns-in-Ok-clause-value
 returns-in-Ok-clause-value g c =
@@ -24,7 +28,7 @@ returns-in-Ok-clause-value g c =
     value_is F G (poly_of K s.den) (plane_of K s.num) X Y (elem_of L f c.in_ok-den.den)
     (elem_of L f c.in-Ok.inverse) (elem_of L f c.in_ok-num-in-Ok.num)
     (elem_of L f c.in_ok-value-in-Ok.value)
-    c.in_ok-den.ensures.value c.in-Ok.ensures.inverse
+    (c.in_ok-den.ensures.value X c.in_ok-at.ensures) c.in-Ok.ensures.inverse
     (c.in_ok-num-in-Ok.ensures.value
     ∙ ap (λ rows. plane_at_pair F G X Y (plane_of K rows)) c.rows.ensures)
     c.in_ok-value-in-Ok.ensures.value
@@ -41,5 +45,5 @@ returns-in-Err-ZeroDivisor-clause-none g c =
     (DividesZero L f c.in_ok-den.den) c.in-Err-ZeroDivisor.field-0-is
     c.in-Err-ZeroDivisor.ensures.divisor in
     no_value F G (poly_of K c.args.s.now.den) X (elem_of L f c.in_ok-den.den)
-    (elem_of L f c.in-Err-ZeroDivisor.field-0-0) c.in_ok-den.ensures.value divides.product
-    divides.nonzero
+    (elem_of L f c.in-Err-ZeroDivisor.field-0-0) (c.in_ok-den.ensures.value X c.in_ok-at.ensures)
+    divides.product divides.nonzero

@@ -1,53 +1,21 @@
-use Rattle.std.proofs.Common.{IsTrue, ap, arith, length, subst, sym, true, ◌∙◌, ◌≡◌}
-use Rattle.ff_theory.specs.Lawful.{lawful_field}
-use Rattle.ff_theory.specs.Values.{plane_of}
+use Rattle.std.proofs.Common.{IsTrue, ap, length, ◌∙◌}
 use Rattle.ff_theory.proofs.Results.{ok_map}
 use Rattle.ff_elem.specs.Elem.{elem_of}
-use Rattle.ff_data.specs.Pairs.{Undoes}
-use Rattle.ff_data.specs.Substitution.{plane_at_pair}
 use Rattle.ff_data.specs.declared.pair.Pair.{Pair}
-use Rattle.ff_theory.specs.Values.{ArePolys}
 use Rattle.ff_subst.specs.Powers.{IsSubstitution}
-use Rattle.ff_subst.specs.Inverse.{IsOneSided, IsSmallPair}
+use Rattle.ff_subst.specs.Inverse.{IsOneSided}
 use Rattle.ff_subst.proofs.tests.may_invert.Goals as goal
 
-pub vanishes-requires : goal.vanishes-requires
-vanishes-requires g c =
-    let K = g.K.Ring.elements c.args.alg.now.k in
-    record {
-      m = c.requires.m;
-      at = c.in_ok-at.ensures.reduced;
-      rows = subst (ArePolys K)
-          (sym c.rows-2.ensures) c.requires.f.each;
-      enough = omega
-          (arith, ap length c.rows.ensures, ap length c.rows-2.ensures, c.in_ok-at.ensures.count);
-    }
-
-pub gives_variables-requires : goal.gives_variables-requires
-gives_variables-requires g c =
-    let K = g.K.Ring.elements c.args.alg.now.k in
-    let n : length c.args.f.now ≡ length c.in_ok-at.at.y.planes = sym (c.in_ok-at.ensures.count ∙ ap
-    length c.rows.ensures) in
+pub may_invert_at-requires : goal.may_invert_at-requires
+may_invert_at-requires g c =
     record {
       m = c.requires.m;
       at = c.in_ok-at.ensures.reduced;
       matrix = c.in_ok-at.ensures.pair.by_y;
-      back = subst (λ n. IsSmallPair K n c.args.back.now) n
-          c.requires.back;
+      f = c.requires.f;
+      count = c.in_ok-at.ensures.count ∙ ap length c.rows.ensures;
+      back = c.requires.back;
     }
-
-pub returns-then-not-zero : goal.returns-then-not-zero
-returns-then-not-zero g c =
-    let K = g.K.Ring.elements c.args.alg.now.k in
-    let L = g.K.Ring.lawful c.args.alg.now.k in
-    let f = c.args.alg.now.f in
-    let F = lawful_field L in
-    let G = plane_of K f in
-    let X = elem_of L f c.args.pair.now.x in
-    let Y = elem_of L f c.args.pair.now.y in
-    λ u. absurd (let t : c.in_ok-zero.zero
-    ≡ true = c.in_ok-zero.ensures X Y c.in_ok-at.ensures.pair
-    (ap (λ rows. plane_at_pair F G X Y (plane_of K rows)) c.rows-2.ensures ∙ u.satisfies) in cc)
 
 pub returns : goal.returns
 returns g c =
@@ -57,6 +25,6 @@ returns g c =
     let pair = c.args.pair.now in
     let back = c.args.back.now in
     ok_map (λ r. (p : Pair) → IsSubstitution L f m (elem_of L f p.x) (elem_of L f p.y) c.in_ok-at.at
-    → Undoes L f back p → IsTrue r) (λ r. IsOneSided L c.args.f.now f pair back → IsTrue r)
-    c.gives_variables.result
-    (λ r yes u. yes pair c.in_ok-at.ensures.pair u.undone) c.gives_variables.ensures
+    → IsOneSided L c.args.f.now f p back → IsTrue r)
+    (λ r. IsOneSided L c.args.f.now f pair back → IsTrue r) c.may_invert_at.result
+    (λ r h u. h pair c.in_ok-at.ensures.pair u) c.may_invert_at.ensures

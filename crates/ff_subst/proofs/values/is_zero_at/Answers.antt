@@ -10,6 +10,7 @@ pub value_of_rows-requires : goal.value_of_rows-requires
 value_of_rows-requires g c =
     let K = g.K.Ring.elements c.args.alg.now.k in
     record {
+      at = c.requires.at;
       pair = c.requires.pair;
       rows = subst (ArePolys K) (sym c.rows.ensures)
           c.requires.f.each;

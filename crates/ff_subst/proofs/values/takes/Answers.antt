@@ -4,39 +4,40 @@ use Rattle.ff_theory.specs.Values.{plane_of, poly_of}
 use Rattle.ff_theory.proofs.Results.{ok_map}
 use Rattle.ff_elem.specs.Elem.{algebra_in, elem_of}
 use Rattle.ff_data.specs.Pairs.{ValueIs}
-use Rattle.ff_data.specs.Substitution.{plane_at_pair, poly_at}
-use Rattle.ff_theory.specs.Values.{ArePolys}
+use Rattle.ff_data.specs.Substitution.{poly_at}
 use Rattle.ff_subst.specs.Inverse.{HasInverse}
 use Rattle.ff_subst.proofs.PairValues.{of-value, value-of}
 use Rattle.ff_subst.proofs.values.takes.Goals as goal
 
 pub value_of_poly-requires : goal.value_of_poly-requires
 value_of_poly-requires g c =
-    record { x = c.requires.pair.x; p = c.requires.den }
+    record { at = c.requires.at.list; p = c.requires.den }
 
-pub value_of_rows-requires : goal.value_of_rows-requires
-value_of_rows-requires g c =
-    let K = g.K.Ring.elements c.args.alg.now.k in
-    record { pair = c.requires.pair; rows = subst (ArePolys K) (sym c.rows.ensures) c.requires.num }
+pub is_multiple-requires : goal.is_multiple-requires
+is_multiple-requires g c =
+    record {
+      at = c.requires.at;
+      pair = c.requires.pair;
+      num = c.requires.num;
+      v = c.requires.v;
+      den = c.in_ok-den.ensures.element;
+    }
 
-pub returns-then-not-same : goal.returns-then-not-same
-returns-then-not-same g c =
+pub returns-then-not-equal : goal.returns-then-not-equal
+returns-then-not-equal g c =
     let K = g.K.Ring.elements c.args.alg.now.k in
     let L = g.K.Ring.lawful c.args.alg.now.k in
     let f = c.args.alg.now.f in
-    let F = lawful_field L in
-    let G = plane_of K f in
     let A = algebra_in L f in
     let s = c.args.s.now in
     let X = elem_of L f c.args.pair.now.x in
     let Y = elem_of L f c.args.pair.now.y in
-    let v = elem_of L f c.args.v.now in
-    let num = c.in_ok-num.ensures.value
-    ∙ ap (λ rows. plane_at_pair F G X Y (plane_of K rows)) c.rows.ensures in (
+    let v = elem_of L f c.args.v.now in (
       λ e. absurd cc,
-      λ h. absurd (let t : c.same.result ≡ true = c.same.ensures.value.1
-          (c.in_ok-product.ensures.value ∙ ap (A.mul v) c.in_ok-den.ensures.value
-          ∙ of-value F G (poly_of K s.den) (plane_of K s.num) X Y v h ∙ sym num) in cc),
+      λ h. absurd (let t : c.in_ok-equal.equal ≡ true = c.in_ok-equal.ensures.1
+          (ap (A.mul v) (c.in_ok-den.ensures.value X c.requires.at)
+          ∙ of-value (lawful_field L) (plane_of K f) (poly_of K s.den) (plane_of K s.num) X Y v
+          h) in cc),
     )
 
 pub returns : goal.returns
@@ -51,20 +52,17 @@ returns g c =
     let X = elem_of L f c.args.pair.now.x in
     let Y = elem_of L f c.args.pair.now.y in
     let v = elem_of L f c.args.v.now in
-    let d = poly_at F G X (poly_of K s.den) in
-    let num = c.in_ok-num.ensures.value
-    ∙ ap (λ rows. plane_at_pair F G X Y (plane_of K rows)) c.rows.ensures in
-    let yes : c.same.result ≡ true = cc in
-    let equal : A.mul v d ≡ plane_at_pair F G X Y (plane_of K s.num) = ap (A.mul v) (sym
-    c.in_ok-den.ensures.value) ∙ sym c.in_ok-product.ensures.value ∙ c.same.ensures.value.0 yes
-    ∙ num in
+    let d : elem_of L f c.in_ok-den.den ≡ poly_at F G X (poly_of K s.den) =
+    c.in_ok-den.ensures.value X c.requires.at in
+    let yes : c.in_ok-equal.equal ≡ true = cc in
+    let equal = ap (A.mul v) (sym d) ∙ c.in_ok-equal.ensures.0 yes in
     ok_map (λ r. IsTrue r ↔ HasInverse L f (elem_of L f c.in_ok-den.den))
     (λ r. IsTrue r ↔ ValueIs L f s c.args.pair.now v) c.has_inverse.result
     (λ r h. (
-      λ t. let i = subst (HasInverse L f) c.in_ok-den.ensures.value (h.0 t) in value-of F G
+      λ t. let i = subst (HasInverse L f) d (h.0 t) in value-of F G
           (poly_of K s.den) (plane_of K s.num) X Y v
           (record { inverse = i.inverse; inverts = i.inverts }) equal,
-      λ k. h.1 (subst (HasInverse L f) (sym c.in_ok-den.ensures.value)
+      λ k. h.1 (subst (HasInverse L f) (sym d)
           (record { inverse = k.inverse; inverts = k.inverts })),
     ))
     c.has_inverse.ensures

@@ -10,6 +10,7 @@ use Rattle.ff_subst.proofs.values.undoes.Goals as goal
 pub takes-requires : goal.takes-requires
 takes-requires g c =
     record {
+      at = c.requires.at;
       pair = c.requires.back;
       den = c.requires.pair.x.den;
       num = c.requires.pair.x.num;
@@ -19,6 +20,7 @@ takes-requires g c =
 pub takes-requires-2 : goal.takes-requires-2
 takes-requires-2 g c =
     record {
+      at = c.requires.at;
       pair = c.requires.back;
       den = c.requires.pair.y.den;
       num = c.requires.pair.y.num;

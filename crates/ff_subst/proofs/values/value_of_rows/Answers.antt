@@ -12,7 +12,7 @@ pub value_of_poly-requires : goal.value_of_poly-requires
 value_of_poly-requires g c =
     let K = g.K.Ring.elements c.args.alg.now.k in
     record {
-      x = c.requires.pair.x;
+      at = c.requires.at.list;
       p = subst (IsPoly K) (sym c.index-rows-j.is)
           (c.requires.rows (c.loop-j.j - 1) c.index-rows-j.result
           (omega (arith, c.loop-j.invariant.below, c.loop-j-test.true)));
@@ -64,8 +64,8 @@ loop-j-preserved g c =
       element = c.in_ok-value-2.ensures.element;
       value = c.in_ok-value-2.ensures.value
           ∙ ap₂ (λ a b. A.add a (A.mul Y b))
-          (c.in_ok-row.ensures.value ∙ ap (λ p. poly_at F G X (poly_of K p)) (c.index-rows-j.is
-          ∙ get_or_default rows k row [] (omega (arith, old.below, pos)))
+          (c.in_ok-row.ensures.value X c.requires.at ∙ ap (λ p. poly_at F G X (poly_of K p))
+          (c.index-rows-j.is ∙ get_or_default rows k row [] (omega (arith, old.below, pos)))
           ∙ row-entry K L f X rows k) old.value
           ∙ horner-next K L f Y cs (length rows) j k pos old.below refl;
     }

@@ -1,15 +1,12 @@
-use Rattle.std.proofs.Common.{◌↔◌, IsTrue, subst}
 use Rattle.ff_theory.proofs.Results.{ok_map}
-use Rattle.ff_prime.specs.declared.prime.Prime.{Prime}
-use Rattle.ff_data.specs.Pairs.{IsInversePair}
-use Rattle.ff_top.specs.Check.{IsPairOf, TestsPairs}
+use Rattle.ff_top.specs.Check.{TestsBack, TestsPairs}
 use Rattle.ff_top.proofs.Laws.{laws_of}
 use Rattle.ff_top.proofs.Verdicts.{four_is}
 use Rattle.ff_top.proofs.check.are_inverse.Goals as goal
 
 pub returns-clause-answer : goal.returns-clause-answer
 returns-clause-answer g c =
-    let first = c.args.first.now in
+    let f = c.args.first.now.f in
     let second = c.args.second.now in
     let L = laws_of second.k in
     let elems = c.args.elems.now in
@@ -18,11 +15,10 @@ returns-clause-answer g c =
     let u = c.index-elems-2.result in
     let v = c.index-elems-3.result in
     let pair = c.in_ok-pair.pair in
-    let back = c.in_ok-back.back in
     let four = four_is elems x y u v c.requires.four
     c.index-elems-0.is c.index-elems-1.is c.index-elems-2.is c.index-elems-3.is in
-    ok_map (λ b. IsTrue b ↔ IsInversePair L first.f second.f pair back)
-    (TestsPairs L first.f second.f elems) c.is_inverse.result (λ b r. record {
+    ok_map (TestsBack L f second.f u v pair) (TestsPairs L f second.f elems) c.are_back.result
+    (λ b t. record {
       x = x;
       y = y;
       u = u;
@@ -30,8 +26,5 @@ returns-clause-answer g c =
       fractions = four;
       pair = pair;
       is_pair = c.in_ok-pair.ensures;
-      back = back;
-      is_back = subst (λ (k : Prime). IsPairOf (laws_of k) first.f u v back)
-          c.requires.field c.in_ok-back.ensures;
-      inverse = r;
-    }) c.is_inverse.ensures.inverse
+      tests = t;
+    }) c.are_back.ensures.answer

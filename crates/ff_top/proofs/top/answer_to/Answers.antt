@@ -2,8 +2,7 @@ use Rattle.std.proofs.Common.{◌≤◌, length, ap, subst, arith, inr}
 use Rattle.ff_theory.proofs.Results.{ok_map}
 use Rattle.ff_io.specs.Bytes.{TakesSome}
 use Rattle.ff_io.specs.Causes.{Rose}
-use Rattle.ff_text.specs.declared.layout.Mode.TheVariants as mode
-use Rattle.ff_top.specs.Check.{IsJudged}
+use Rattle.ff_top.specs.Commands.{Judges, mode_of}
 use Rattle.ff_top.specs.Input.{IsInputAnswer}
 use Rattle.ff_top.specs.Run.{IsReadAnswer, read_limit}
 use Rattle.ff_top.proofs.Taken.{takes_some, on_err}
@@ -18,16 +17,17 @@ returns-in-Ok-clause-answer g c =
     let bytes = c.in-Ok.bytes.items in
     let before = c.args.tests.now in
     let after = c.answer_of.new.tests in
-    ok_map (λ a. IsInputAnswer mode.Check IsJudged c.deref.result.now before after
+    let mode = mode_of c.args.command in
+    ok_map (λ a. IsInputAnswer mode (Judges mode) c.deref.result.now before after
     a.status a.text.items)
-    (λ a. IsReadAnswer mode.Check old new rose before after a.status a.text.items)
+    (λ a. IsReadAnswer mode old new rose before after a.status a.text.items)
     c.answer_of.result (λ a h. inr (record {
       bytes = bytes;
       taken = c.in-Ok.ensures.bytes;
       end = λ short. c.in-Ok.ensures.end
           (omega (arith, ap length c.deref.ensures.value, c.deref.ensures.len, short));
       answer = subst
-          (λ bs. IsInputAnswer mode.Check IsJudged bs before after a.status a.text.items)
+          (λ bs. IsInputAnswer mode (Judges mode) bs before after a.status a.text.items)
           c.deref.ensures.value h;
     })) c.answer_of.ensures.answer
 

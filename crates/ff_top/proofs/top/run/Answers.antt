@@ -1,13 +1,13 @@
-use Rattle.std.proofs.Common.{◌≡◌, ℕ, List, true, inl, inr, map, refl, subst}
+use Rattle.std.proofs.Common.{ℕ, List, inl, inr, map, refl, subst}
 use Rattle.ff_io.specs.Causes.{Rose}
-use Rattle.ff_text.specs.declared.layout.Mode.TheVariants as mode
 use Rattle.ff_top.specs.declared.word.Word.{Word}
+use Rattle.ff_top.specs.Commands.{mode_of}
 use Rattle.ff_top.specs.Run.{Ends, IsAnswer}
-use Rattle.ff_top.proofs.Endings.{ends_writes, no_command, read_answer_has_text}
+use Rattle.ff_top.proofs.Endings.{ends_writes, read_answer_has_text}
 use Rattle.ff_top.proofs.top.run.Goals as goal
 
-pub returns-then-not-is_check-clause-writes : goal.returns-then-not-is_check-clause-writes
-returns-then-not-is_check-clause-writes g c =
+pub returns-in-None-clause-writes : goal.returns-in-None-clause-writes
+returns-in-None-clause-writes g c =
     let words = map (λ (w : Word). w.text) c.args.words.now in
     let left = g.S.Source.left c.args.source.now in
     let faults = g.S.Source.faults c.args.source.now in
@@ -15,8 +15,7 @@ returns-then-not-is_check-clause-writes g c =
     ends_writes (IsAnswer words left left (Rose faults faults) tests tests) _ _ _ _
     c.write_text.result tt
     (inl (record {
-      no_command = no_command words (λ h.
-          let yes : c.is_check.result ≡ true = c.is_check.ensures.1 h in cc);
+      no_command = c.in-None.ensures.none;
       unread = refl;
       unticked = refl;
       status_is = refl;
@@ -36,11 +35,12 @@ returns-in-Ok-clause-writes g c =
     let written' = g.T.Sink.written c.write_text-in-Ok.new.sink in
     let status = c.in-Ok.answer.status in
     let result = c.write_text-in-Ok.result in
+    let mode = mode_of c.in-Some.command in
     ends_writes (IsAnswer words old new rose before after) _ _ _ _ result
-    (read_answer_has_text mode.Check old new rose before after status _ c.in-Ok.ensures.answer)
+    (read_answer_has_text mode old new rose before after status _ c.in-Ok.ensures.answer)
     (inr (record {
-      mode = mode.Check;
-      command = c.is_check.ensures.0 c.if-not-is_check.false;
+      mode = mode;
+      command = c.in-Some.ensures.some;
       answer = c.in-Ok.ensures.answer;
     }))
     (subst (λ (text : List ℕ). Ends status text written written' result)

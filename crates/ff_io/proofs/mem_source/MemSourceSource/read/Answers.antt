@@ -11,4 +11,5 @@ returns-clause-bytes c =
     ReadConsumes-given c.self.inside.chunk _ c.args.self.now.left c.args.buf.now _ _ (search rules)
     (omega (arith, length-drop {A = ℕ}, ap (λ s. length s.left) c.self.view_is))
     (search rules)
-    (sym (drop-drop c.min-count.result c.self.inside.taken c.self.inside.bytes.items) ∙ ap (λ s. drop c.min-count.result s.left) c.self.view_is)
+    (sym (drop-drop c.min-count.result c.self.inside.taken c.self.inside.bytes.items)
+    ∙ ap (λ s. drop c.min-count.result s.left) c.self.view_is)

@@ -12,5 +12,8 @@ returns-clause-value g c =
     let tests = g.met.K.Ring.tests c.args.k.now in
     let e : c.truncate.new.self.items ≡ take c.significant_rows-n.result c.deref.result.now = cc in
     ap (plane_of K) e
-    ∙ poly_ext (polynomials K.ring) (polynomial_laws K.ring laws tests) (polynomial_tests K.ring laws tests) (map (λ p. poly_of K p) (take c.significant_rows-n.result c.deref.result.now)) (map (λ p. poly_of K p) c.deref.result.now) c.significant_rows-n.ensures.same
+    ∙ poly_ext (polynomials K.ring) (polynomial_laws K.ring laws tests)
+    (polynomial_tests K.ring laws tests)
+    (map (λ p. poly_of K p) (take c.significant_rows-n.result c.deref.result.now))
+    (map (λ p. poly_of K p) c.deref.result.now) c.significant_rows-n.ensures.same
     ∙ ap (plane_of K) c.deref.ensures.value

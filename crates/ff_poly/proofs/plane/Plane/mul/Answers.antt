@@ -20,4 +20,5 @@ pub returns-clause-value : goal.returns-clause-value
 returns-clause-value g c =
     let K = g.K.Ring.elements c.args.k.now in
     c.from_vec.ensures.value ∙ c.in_ok-products.ensures.value
-    ∙ ap₂ (λ p q. (polynomials (polynomials K.ring)).mul (plane_of K p) (plane_of K q)) (c.deref.ensures.value ∙ c.self.view_is) (c.deref-2.ensures.value ∙ c.b.view_is)
+    ∙ ap₂ (λ p q. (polynomials (polynomials K.ring)).mul (plane_of K p) (plane_of K q))
+    (c.deref.ensures.value ∙ c.self.view_is) (c.deref-2.ensures.value ∙ c.b.view_is)

@@ -19,5 +19,8 @@ returns-clause-value g c =
     let laws = g.met.K.Ring.laws c.args.k.now in
     let tests = g.met.K.Ring.tests c.args.k.now in
     c.from_vec.ensures.value
-    ∙ neg_by_map (polynomials K.ring) (polynomial_laws K.ring laws tests) (polynomial_tests K.ring laws tests) (λ p. poly_of K p) (λ p. poly_of K p) c.deref.result.now c.in_ok-negatives.field-0.items c.in_ok-negatives.ensures.value
-    ∙ ap (λ p. (polynomials (polynomials K.ring)).neg (plane_of K p)) (c.deref.ensures.value ∙ c.self.view_is)
+    ∙ neg_by_map (polynomials K.ring) (polynomial_laws K.ring laws tests)
+    (polynomial_tests K.ring laws tests) (λ p. poly_of K p) (λ p. poly_of K p) c.deref.result.now
+    c.in_ok-negatives.field-0.items c.in_ok-negatives.ensures.value
+    ∙ ap (λ p. (polynomials (polynomials K.ring)).neg (plane_of K p))
+    (c.deref.ensures.value ∙ c.self.view_is)

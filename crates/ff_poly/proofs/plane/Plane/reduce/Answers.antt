@@ -11,7 +11,10 @@ reduce-init g c =
       factor = c.in_ok-factor.ensures.poly;
       nonzero = omega (arith, c.in_ok-factor.ensures.len);
       rest = c.in_ok-rest.ensures.plane;
-      value = pseudo_start K.ring (g.met.K.Ring.laws c.args.k.now) (g.met.K.Ring.tests c.args.k.now) (poly_of K c.in_ok-factor.factor) (plane_of K c.args.self.now) (plane_of K c.args.f.now) (plane_of K c.in_ok-rest.rest) c.in_ok-factor.ensures.value (c.in_ok-rest.ensures.value ∙ ap (plane_of K) c.rows.ensures);
+      value = pseudo_start K.ring (g.met.K.Ring.laws c.args.k.now) (g.met.K.Ring.tests c.args.k.now)
+          (poly_of K c.in_ok-factor.factor) (plane_of K c.args.self.now) (plane_of K c.args.f.now)
+          (plane_of K c.in_ok-rest.rest) c.in_ok-factor.ensures.value
+          (c.in_ok-rest.ensures.value ∙ ap (plane_of K) c.rows.ensures);
     }
 
 pub reduce-preserved : goal.reduce-preserved
@@ -21,12 +24,22 @@ reduce-preserved g c =
     let tests = g.met.K.Ring.tests c.args.k.now in
     let factor = c.in_ok-factor-2.factor in
     let rest : c.rows-in-reduce-3.result.now ≡ c.reduce.rest = c.rows-in-reduce-3.ensures in
-    let step = subst (λ p. IsPseudoDivision K.ring (poly_of K c.in_ok-c.c) (plane_of K p) (plane_of K c.args.f.now) (plane_of K c.in_ok-c.next)) rest (subst (λ p. IsPseudoDivision K.ring (poly_of K c.in_ok-c.c) (plane_of K c.rows-in-reduce-3.result.now) (plane_of K p) (plane_of K c.in_ok-c.next)) c.rows-in-reduce-4.ensures c.in_ok-c.ensures.value) in
+    let step = subst (λ p. IsPseudoDivision K.ring (poly_of K c.in_ok-c.c) (plane_of K p)
+    (plane_of K c.args.f.now) (plane_of K c.in_ok-c.next)) rest
+    (subst (λ p. IsPseudoDivision K.ring (poly_of K c.in_ok-c.c)
+    (plane_of K c.rows-in-reduce-3.result.now) (plane_of K p) (plane_of K c.in_ok-c.next))
+    c.rows-in-reduce-4.ensures c.in_ok-c.ensures.value) in
     record {
       factor = c.in_ok-factor-2.ensures.poly;
-      nonzero = product_nonzero K laws tests (g.met.K.Field.is_field c.args.k.now) c.in_ok-c.c c.reduce.factor factor c.in_ok-c.ensures.factor c.reduce.invariant.factor c.in_ok-factor-2.ensures.poly c.in_ok-factor-2.ensures.value c.in_ok-c.ensures.nonzero c.reduce.invariant.nonzero;
+      nonzero = product_nonzero K laws tests (g.met.K.Field.is_field c.args.k.now) c.in_ok-c.c
+          c.reduce.factor factor c.in_ok-c.ensures.factor c.reduce.invariant.factor
+          c.in_ok-factor-2.ensures.poly c.in_ok-factor-2.ensures.value c.in_ok-c.ensures.nonzero
+          c.reduce.invariant.nonzero;
       rest = c.in_ok-c.ensures.rest;
-      value = pseudo_next K.ring laws tests (poly_of K c.reduce.factor) (poly_of K c.in_ok-c.c) (poly_of K factor) (plane_of K c.args.self.now) (plane_of K c.args.f.now) (plane_of K c.reduce.rest) (plane_of K c.in_ok-c.next) c.in_ok-factor-2.ensures.value c.reduce.invariant.value step;
+      value = pseudo_next K.ring laws tests (poly_of K c.reduce.factor) (poly_of K c.in_ok-c.c)
+          (poly_of K factor) (plane_of K c.args.self.now) (plane_of K c.args.f.now)
+          (plane_of K c.reduce.rest) (plane_of K c.in_ok-c.next) c.in_ok-factor-2.ensures.value
+          c.reduce.invariant.value step;
     }
 
 pub reduce-preserved-in_ok-factor-2 : goal.reduce-preserved-in_ok-factor-2
@@ -36,10 +49,20 @@ reduce-preserved-in_ok-factor-2 g c =
     let tests = g.met.K.Ring.tests c.args.k.now in
     let factor = c.in_ok-factor-2.factor in
     let rest : c.rows-in-reduce-3.result.now ≡ c.reduce.rest = c.rows-in-reduce-3.ensures in
-    let step = subst (λ p. IsPseudoDivision K.ring (poly_of K c.in_ok-c.c) (plane_of K p) (plane_of K c.args.f.now) (plane_of K c.in_ok-c.next)) rest (subst (λ p. IsPseudoDivision K.ring (poly_of K c.in_ok-c.c) (plane_of K c.rows-in-reduce-3.result.now) (plane_of K p) (plane_of K c.in_ok-c.next)) c.rows-in-reduce-4.ensures c.in_ok-c.ensures.value) in
+    let step = subst (λ p. IsPseudoDivision K.ring (poly_of K c.in_ok-c.c) (plane_of K p)
+    (plane_of K c.args.f.now) (plane_of K c.in_ok-c.next)) rest
+    (subst (λ p. IsPseudoDivision K.ring (poly_of K c.in_ok-c.c)
+    (plane_of K c.rows-in-reduce-3.result.now) (plane_of K p) (plane_of K c.in_ok-c.next))
+    c.rows-in-reduce-4.ensures c.in_ok-c.ensures.value) in
     record {
       factor = c.in_ok-factor-2.ensures.poly;
-      nonzero = product_nonzero K laws tests (g.met.K.Field.is_field c.args.k.now) c.in_ok-c.c c.reduce.factor factor c.in_ok-c.ensures.factor c.reduce.invariant.factor c.in_ok-factor-2.ensures.poly c.in_ok-factor-2.ensures.value c.in_ok-c.ensures.nonzero c.reduce.invariant.nonzero;
+      nonzero = product_nonzero K laws tests (g.met.K.Field.is_field c.args.k.now) c.in_ok-c.c
+          c.reduce.factor factor c.in_ok-c.ensures.factor c.reduce.invariant.factor
+          c.in_ok-factor-2.ensures.poly c.in_ok-factor-2.ensures.value c.in_ok-c.ensures.nonzero
+          c.reduce.invariant.nonzero;
       rest = c.in_ok-c.ensures.rest;
-      value = pseudo_next K.ring laws tests (poly_of K c.reduce.factor) (poly_of K c.in_ok-c.c) (poly_of K factor) (plane_of K c.args.self.now) (plane_of K c.args.f.now) (plane_of K c.reduce.rest) (plane_of K c.in_ok-c.next) c.in_ok-factor-2.ensures.value c.reduce.invariant.value step;
+      value = pseudo_next K.ring laws tests (poly_of K c.reduce.factor) (poly_of K c.in_ok-c.c)
+          (poly_of K factor) (plane_of K c.args.self.now) (plane_of K c.args.f.now)
+          (plane_of K c.reduce.rest) (plane_of K c.in_ok-c.next) c.in_ok-factor-2.ensures.value
+          c.reduce.invariant.value step;
     }

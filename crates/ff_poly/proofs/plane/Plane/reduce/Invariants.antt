@@ -10,7 +10,8 @@ invariant-reduce g l =
       factor : IsPoly K l.factor;
       nonzero : 0 < length l.factor;
       rest : IsPlane K l.rest;
-      value : IsPseudoDivision K.ring (poly_of K l.factor) (plane_of K l.self) (plane_of K l.f) (plane_of K l.rest);
+      value : IsPseudoDivision K.ring (poly_of K l.factor) (plane_of K l.self) (plane_of K l.f)
+          (plane_of K l.rest);
     }
 
 abbrev pub decreases-reduce : goal.decreases-reduce

@@ -9,7 +9,8 @@ multiples-requires g c =
     let K = g.K.Ring.elements c.args.k.now in
     record {
       c = c.requires.c;
-      rows = subst (All (λ p. IsPoly K p)) (sym (c.deref.ensures.value ∙ c.self.view_is)) c.requires.a.each;
+      rows = subst (All (λ p. IsPoly K p)) (sym (c.deref.ensures.value ∙ c.self.view_is))
+          c.requires.a.each;
     }
 
 pub from_vec-requires : goal.from_vec-requires
@@ -19,4 +20,5 @@ pub returns-clause-value : goal.returns-clause-value
 returns-clause-value g c =
     let K = g.K.Ring.elements c.args.k.now in
     c.from_vec.ensures.value ∙ c.in_ok-multiples.ensures.value
-    ∙ ap (λ p. (polynomials (polynomials K.ring)).mul (row_of K.ring (poly_of K c.args.c.now)) (plane_of K p)) (c.deref.ensures.value ∙ c.self.view_is)
+    ∙ ap (λ p. (polynomials (polynomials K.ring)).mul (row_of K.ring (poly_of K c.args.c.now))
+    (plane_of K p)) (c.deref.ensures.value ∙ c.self.view_is)

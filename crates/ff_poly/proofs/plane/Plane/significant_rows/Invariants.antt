@@ -6,7 +6,10 @@ use Rattle.ff_poly.proofs.plane.Plane.significant_rows.Given as goal
 abbrev pub invariant-loop-n : goal.invariant-loop-n
 invariant-loop-n g l = record {
   below : l.n ≤ length l.rows;
-  same : (i : ℕ) → coeff (polynomials (g.K.Ring.elements l.k).ring) (map (λ p. poly_of (g.K.Ring.elements l.k) p) (take l.n l.rows)) i ≡ coeff (polynomials (g.K.Ring.elements l.k).ring) (map (λ p. poly_of (g.K.Ring.elements l.k) p) l.rows) i;
+  same : (i : ℕ) → coeff (polynomials (g.K.Ring.elements l.k).ring)
+      (map (λ p. poly_of (g.K.Ring.elements l.k) p) (take l.n l.rows)) i
+      ≡ coeff (polynomials (g.K.Ring.elements l.k).ring)
+      (map (λ p. poly_of (g.K.Ring.elements l.k) p) l.rows) i;
 }
 
 abbrev pub decreases-loop-n : goal.decreases-loop-n

@@ -10,5 +10,7 @@ invariant-loop-i g l =
     record {
       len : length l.parts.items ≡ l.i;
       each : ArePolys K l.parts.items;
-      roots : (i : ℕ) → i < l.i → (j : ℕ) → power K.ring (coeff K.ring (map K.value (get_or l.parts.items i [])) j) K.characteristic ≡ coeff K.ring (map K.value l.self) (i + j * K.characteristic);
+      roots : (i : ℕ) → i < l.i → (j : ℕ) → power K.ring
+          (coeff K.ring (map K.value (get_or l.parts.items i [])) j) K.characteristic
+          ≡ coeff K.ring (map K.value l.self) (i + j * K.characteristic);
     }

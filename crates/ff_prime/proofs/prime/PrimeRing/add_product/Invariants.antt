@@ -11,5 +11,6 @@ invariant-loop-i l =
       len : length l.sum ≡ length l.fn.sum;
       terms : l.terms ≤ 400000;
       bound : (j : ℕ) → j < length l.sum → get_or l.sum j 0 ≤ 96 + l.terms * 9216;
-      value : poly_of K l.sum ≡ P.add (poly_of K l.fn.sum) (P.mul (poly_of K (take l.i l.a)) (poly_of K l.b));
+      value : poly_of K l.sum ≡ P.add (poly_of K l.fn.sum)
+          (P.mul (poly_of K (take l.i l.a)) (poly_of K l.b));
     }

@@ -1,0 +1,9 @@
+pub mod ChartLaws
+pub mod Combinations
+pub mod Divisors
+pub mod Fractions
+pub mod Pieces
+pub mod Numerators
+pub mod OneList
+pub mod ReadBack
+pub mod Lengths

@@ -1,0 +1,160 @@
+-- Combinations of a basis, and of the images of a basis.
+use Rattle.std.proofs.Common.{◌≡◌, ℕ, ◌<◌, ◌≤◌, ◌⊎◌, inl, inr, ◌↔◌, List, length, refl, sym}
+use Rattle.std.proofs.Common.{◌∙◌, ap, arith, map, subst, Vec, Global}
+use Rattle.std.proofs.lemmas.List.{length-map}
+use Rattle.std.proofs.lemmas.Bool.{cases_lt}
+use Rattle.ff_theory.specs.Ring.{Elements, power}
+use Rattle.ff_theory.specs.Lawful.{Lawful}
+use Rattle.ff_theory.specs.Span.{combination, InSpan, SameSpan}
+use Rattle.ff_theory.specs.Vector.{vector_of, vectors_of, combination_of}
+use Rattle.ff_theory.proofs.Coeffs.{coeff-past}
+use Rattle.ff_theory.proofs.Frobenius.{power-zero}
+use Rattle.ff_theory.proofs.Span.{span-inside, span-same}
+use Rattle.ff_theory.proofs.Sums.{sum-ext}
+use Rattle.ff_lin.specs.Space.{SpaceParts, InSpace, SpansFamily, HasExactly, combinations_of}
+use Rattle.ff_lin.specs.Space.{frobenius}
+use Rattle.ff_lin.proofs.Frobenius.{power-combination}
+use Rattle.ff_lin.proofs.MeetSum.{cut, cut-ends, combination-cut, combination-combination}
+
+module _ (F : Elements ℕ) (L : Lawful F) where
+  -- a list that is long enough, with the powers of the entries
+  pub frobenius_whole : (v w : List ℕ) (n : ℕ) → length w ≡ n → length v ≤ n
+      → ((j : ℕ) → j < n → vector_of F w j ≡ frobenius F (vector_of F v) j) → (j : ℕ)
+      → vector_of F w j ≡ frobenius F (vector_of F v) j
+  frobenius_whole v w n e b h j = go (cases_lt j n)
+    where
+      go : (j < n) ⊎ (n ≤ j) → vector_of F w j ≡ frobenius F (vector_of F v) j
+      go (inl q) = h j q
+      go (inr q) = coeff-past F.ring F.value w j (omega (arith, e, q))
+          ∙ sym (ap (λ t. power F.ring t F.characteristic)
+          (coeff-past F.ring F.value v j (omega (arith, b, q)))
+          ∙ power-zero F.ring L.laws F.characteristic L.finite.least.positive)
+
+  -- the combination of the images is the image of the combination
+  pub image-combination : (images basis rows : List (List ℕ))
+      → ((i j : ℕ) → i < length basis → vectors_of F rows i j
+      ≡ combination_of F images (frobenius F (vectors_of F basis i)) j)
+      → (c : ℕ → F.carrier) (j : ℕ)
+      → combination F.ring (length basis) (frobenius F c) (vectors_of F rows) j
+      ≡ combination_of F images (frobenius F (combination_of F basis c)) j
+  image-combination images basis rows h c j =
+      sum-ext F.ring L.laws (length basis) _ _ (λ i q. ap (F.mul (frobenius F c i)) (h i j q))
+      ∙ sym (combination-combination F.ring L.laws (length images) (length basis) (frobenius F c)
+      (λ i. frobenius F (vectors_of F basis i)) (vectors_of F images) j)
+      ∙ sum-ext F.ring L.laws (length images) _ _
+      (λ s q. ap (λ t. F.mul t (vectors_of F images s j))
+      (sym (power-combination F.field L.laws L.finite (length basis) c (vectors_of F basis) s)))
+
+  pub images-exact : (given basis list : List (Vec ℕ Global)) (old target s : SpaceParts)
+      → map (λ v. v.items) basis ≡ old.basis → length list ≡ length basis
+      → ((i j : ℕ) → i < length basis → vectors_of F (map (λ v. v.items) list) i j
+      ≡ combination_of F (map (λ v. v.items) given)
+      (frobenius F (vectors_of F (map (λ v. v.items) basis) i)) j)
+      → HasExactly F s
+      (λ v. InSpace F target (combination_of F (map (λ v. v.items) list) (frobenius F v)))
+      → HasExactly F s (λ v. InSpace F target
+      (combination_of F (map (λ v. v.items) given) (frobenius F (combination_of F old.basis v))))
+  images-exact given basis list old target s hb len h exact = subst (λ b. HasExactly F s (λ v.
+      InSpace F target (combination_of F (map items given) (frobenius F (combination_of F b v)))))
+      hb
+      (λ v. (
+        λ k. let e = (exact v).0 k in (
+          e.0,
+          span-same F.ring L.laws (length target.basis)
+              (vectors_of F target.basis) (combination_of F (map items list) (frobenius F v))
+              (combination_of F (map items given) (frobenius F
+              (combination_of F (map items basis) v)))
+              (λ j. sym (is v j)) e.1,
+        ),
+        λ k. (exact v).1 (
+          k.0,
+          span-same F.ring L.laws (length target.basis)
+              (vectors_of F target.basis)
+              (combination_of F (map items given) (frobenius F
+              (combination_of F (map items basis) v)))
+              (combination_of F (map items list) (frobenius F v)) (is v) k.1,
+        ),
+      ))
+    where
+      items : Vec ℕ Global → List ℕ
+      items v = v.items
+
+      count : length (map items list) ≡ length (map items basis)
+      count = length-map list items ∙ len ∙ sym (length-map basis items)
+
+      is : (v : ℕ → F.carrier) (j : ℕ) → combination_of F (map items list) (frobenius F v) j
+          ≡ combination_of F (map items given) (frobenius F (combination_of F (map items basis) v))
+          j
+      is v j = ap (λ r. combination F.ring r (frobenius F v) (vectors_of F (map items list)) j)
+          count
+          ∙ image-combination (map items given) (map items basis) (map items list)
+          (λ i l q. let b = length-map basis items in h i l (omega (arith, b, q))) v j
+
+  -- the span of combinations, as the calls make it
+  pub kept-spans : (basis lists : List (Vec ℕ Global)) (old new s : SpaceParts)
+      → map (λ v. v.items) basis ≡ old.basis → map (λ v. v.items) lists ≡ new.basis
+      → SpansFamily F s.basis (length lists)
+      (combinations_of F (map (λ v. v.items) basis) (map (λ v. v.items) lists))
+      → SameSpan F.ring (length s.basis) (vectors_of F s.basis) (length new.basis)
+      (combinations_of F old.basis new.basis)
+  kept-spans basis lists old new s hb hl h =
+      subst (λ b. SpansFamily F s.basis (length new.basis) (combinations_of F b new.basis)) hb
+      (subst (λ l. SpansFamily F s.basis (length l) (combinations_of F (map items basis) l)) hl
+      (subst (λ n. SpansFamily F s.basis n (combinations_of F (map items basis) (map items lists)))
+      (sym (length-map lists items)) h))
+    where
+      items : Vec ℕ Global → List ℕ
+      items v = v.items
+
+  -- the combinations of the basis of a whose coefficients give vectors with the property P span the
+  -- vectors of a that have it
+  pub kept-exact : (a c s : SpaceParts) (P : (ℕ → F.carrier) → Type 0)
+      → ((v w : ℕ → F.carrier) → ((j : ℕ) → w j ≡ v j) → P v → P w)
+      → c.len ≡ length a.basis → HasExactly F c (λ v. P (combination_of F a.basis v))
+      → SameSpan F.ring (length s.basis) (vectors_of F s.basis) (length c.basis)
+      (combinations_of F a.basis c.basis) → (v : ℕ → F.carrier)
+      → InSpace F s v ↔ (InSpace F a v × P v)
+  kept-exact a c s P carried len exact same v = (λ h. both (into h), λ h. out h.0 h.1)
+    where
+      into : InSpace F s v → InSpan F.ring (length c.basis) (combinations_of F a.basis c.basis) v
+      into = span-inside F.ring L.laws (length s.basis) (vectors_of F s.basis) (length c.basis)
+          (combinations_of F a.basis c.basis) v same.into
+
+      both : InSpan F.ring (length c.basis) (combinations_of F a.basis c.basis) v
+          → InSpace F a v × P v
+      both h = (
+        record { coefficients = d; sum = is },
+        carried (combination_of F a.basis d) v is
+            ((exact d).0 (record { coefficients = h.coefficients; sum = λ j. refl })).1,
+      )
+        where
+          d : ℕ → F.carrier
+          d = combination F.ring (length c.basis) h.coefficients (vectors_of F c.basis)
+
+          is : (j : ℕ) → v j ≡ combination_of F a.basis d j
+          is j = h.sum j ∙ sym (combination-combination F.ring L.laws (length a.basis)
+              (length c.basis) h.coefficients (vectors_of F c.basis) (vectors_of F a.basis) j)
+
+      out : InSpace F a v → P v → InSpace F s v
+      out h k = span-inside F.ring L.laws (length c.basis) (combinations_of F a.basis c.basis)
+          (length s.basis) (vectors_of F s.basis) v same.back (record {
+            coefficients = e.coefficients;
+            sum = λ j. is j ∙ sum-ext F.ring L.laws (length a.basis) _ _
+                (λ i l. ap (λ t. F.mul t (vectors_of F a.basis i j)) (e.sum i))
+                ∙ combination-combination F.ring L.laws (length a.basis) (length c.basis)
+                e.coefficients (vectors_of F c.basis) (vectors_of F a.basis) j;
+          })
+        where
+          d : ℕ → F.carrier
+          d = cut F.ring L.laws (length a.basis) h.coefficients
+
+          is : (j : ℕ) → v j ≡ combination_of F a.basis d j
+          is j = h.sum j ∙ sym (combination-cut F.ring L.laws (length a.basis) h.coefficients
+              (vectors_of F a.basis) j)
+
+          e : InSpace F c d
+          e = (exact d).1 (
+            (λ i l. cut-ends F.ring L.laws (length a.basis) h.coefficients i
+                (omega (arith, l, len))),
+            carried v (combination_of F a.basis d) (λ j. sym (is j)) k,
+          )

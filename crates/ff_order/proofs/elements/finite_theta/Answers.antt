@@ -1,0 +1,13 @@
+use Rattle.std.proofs.Common.{◌∙◌, ap₂}
+use Rattle.ff_theory.proofs.Results.{ok_both}
+use Rattle.ff_elem.specs.Elem.{algebra_in}
+use Rattle.ff_order.proofs.elements.finite_theta.Goals as goal
+
+pub returns : goal.returns
+returns g c =
+    let A = algebra_in (g.K.Ring.lawful c.args.alg.now.k) c.args.alg.now.f in
+    ok_both _ _ _ c.mul.result
+    (λ r element value. record {
+      element = element;
+      value = value ∙ ap₂ A.mul c.in_ok-lead.ensures.value c.in_ok-y.ensures.value;
+    }) c.mul.ensures.element c.mul.ensures.value

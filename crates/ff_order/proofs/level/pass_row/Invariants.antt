@@ -1,0 +1,10 @@
+use Rattle.ff_order.specs.Steps.{IsResidueSpace, HoldsIntegral}
+use Rattle.ff_order.proofs.level.pass_row.Given as goal
+
+abbrev pub invariant-loop-s : goal.invariant-loop-s
+invariant-loop-s g l =
+    let L = g.K.Ring.lawful l.alg.k in
+    record {
+      space : IsResidueSpace L l.alg.f l.fn.chart l.rows.d l.space;
+      holds : HoldsIntegral L l.alg.f l.fn.chart l.rows.d l.space;
+    }

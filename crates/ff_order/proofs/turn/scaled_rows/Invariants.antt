@@ -1,0 +1,20 @@
+use Rattle.std.proofs.Common.{◌≡◌, ℕ, ◌*◌, ◌<◌, pred, length, map, All}
+use Rattle.ff_theory.specs.Values.{poly_of}
+use Rattle.ff_theory.specs.Vector.{vectors_of, IsVector}
+use Rattle.ff_data.specs.Orders.{y_degree}
+use Rattle.ff_order.specs.Steps.{IsScaledRow}
+use Rattle.ff_order.proofs.turn.scaled_rows.Given as goal
+
+abbrev pub invariant-loop-v : goal.invariant-loop-v
+invariant-loop-v g l =
+    let F = g.K.Ring.elements l.alg.k in
+    let L = g.K.Ring.lawful l.alg.k in
+    let f = l.alg.f in
+    record {
+      len : length l.list.items ≡ l.v-index;
+      vectors : All (λ v. IsVector F (y_degree L f * pred (length l.powers.top)) v.items)
+          l.list.items;
+      value : (i : ℕ) → i < l.v-index → IsScaledRow L f l.chart l.rows.d l.powers.top
+          (poly_of F l.powers.below) (vectors_of F (map (λ v. v.items) l.basis) i)
+          (vectors_of F (map (λ v. v.items) l.list.items) i);
+    }

@@ -1,0 +1,32 @@
+-- The printed texts of refusals.
+use Rattle.std.specs.Prelude.{ℕ, ◌≤◌, List, ◌++◌, codes}
+use Rattle.std.specs.Fmt.{decimal}
+use Rattle.ff_data.specs.declared.order.Refusal.{Refusal}
+use Rattle.ff_data.specs.declared.order.Refusal.TheVariants as refusal
+use Rattle.ff_text.specs.Printed.{poly_text}
+
+-- the equation has the derivative 0 in y
+abbrev pub inseparable_text : ℕ → List ℕ
+inseparable_text w = codes "premise: equation " ++ decimal w ++ codes " is inseparable in y\n"
+
+-- two factors, each in parentheses
+unfoldable pub product_text : (g h : List (List ℕ)) → List ℕ
+product_text g h = codes "(" ++ poly_text g ++ codes ")*(" ++ poly_text h ++ codes ")"
+
+-- the equation has these factors
+abbrev pub reducible_text : ℕ → (g h : List (List ℕ)) → List ℕ
+reducible_text w g h =
+    codes "premise: equation " ++ decimal w ++ codes " is reducible: " ++ product_text g h
+    ++ codes "\n"
+
+-- the line for a refusal; out of memory has none
+abbrev pub refusal_text : Refusal → List ℕ
+refusal_text (refusal.Inseparable w) = inseparable_text w
+refusal_text (refusal.Reducible w g h) = reducible_text w g h
+refusal_text refusal.NoMemory = codes ""
+
+-- refusals that have a line: the equation is the first or the second one
+abbrev pub HasLine : Refusal → Type 0
+HasLine (refusal.Inseparable w) = (1 ≤ w) × (w ≤ 2)
+HasLine (refusal.Reducible w g h) = (1 ≤ w) × (w ≤ 2)
+HasLine refusal.NoMemory = ⊥
