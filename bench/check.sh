@@ -4,7 +4,7 @@
 # high degree whose values at one another are of far higher degree; on a text of 65,536 bytes that
 # is mostly like terms; and on eleven inputs that were made to be slow. A row has the milliseconds
 # of the processor, the least of three runs with the start of the process, and the greatest memory.
-# Usage, after ./ff prove: bench/check.sh. Needs Python 3.
+# Usage, after ./ff prove: bench/check.sh. Needs Python 3 and GNU time.
 set -eu
 top=$(cd "$(dirname "$0")/.." && pwd)
 work=$(mktemp -d)

@@ -4,6 +4,7 @@
     bench/check/measure.py PROGRAM INPUT..
 
 The time is the least of three runs, the start of the process included; the memory is the greatest.
+Needs GNU time, which tells the memory of the program alone.
 """
 import os
 import subprocess
@@ -14,10 +15,14 @@ from pathlib import Path
 def run(program, path):
     """The answer, the seconds of the processor and the kilobytes of one run."""
     with open(path, "rb") as source:
-        child = subprocess.Popen([program, "check"], stdin=source, stdout=subprocess.PIPE)
+        words = ["/usr/bin/time", "-q", "-f", "%M", program, "check"]
+        child = subprocess.Popen(
+            words, stdin=source, stdout=subprocess.PIPE, stderr=subprocess.PIPE
+        )
         answer = child.stdout.read().decode().strip()
+        memory = int(child.stderr.read().split()[-1])
         _, _, used = os.wait4(child.pid, 0)
-    return answer, used.ru_utime + used.ru_stime, used.ru_maxrss
+    return answer, used.ru_utime + used.ru_stime, memory
 
 
 def main():
