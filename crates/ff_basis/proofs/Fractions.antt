@@ -19,8 +19,8 @@ use Rattle.ff_charts.proofs.Chart.{cancel_u, row_times, powers_at, powers_add, p
 use Rattle.ff_charts.proofs.Chart.{powers_plane, powers_u, powers_zero}
 use Rattle.ff_charts.proofs.Flat.{flat_one}
 use Rattle.ff_charts.proofs.Lattice.{residue_one, lat_element}
-use Rattle.ff_basis.proofs.Combinations.{planes_combined, combined_shape, combined_flat}
-use Rattle.ff_basis.proofs.Combinations.{combined_value}
+use Rattle.ff_data.proofs.PlaneCombinations.{planes_combined, combined_shape, combined_flat}
+use Rattle.ff_data.proofs.PlaneCombinations.{combined_value}
 use Rattle.ff_basis.proofs.Divisors.{few_rows, rows_divisible}
 
 module _ (K : Field) (A : RingOps) (AL : IsCommRing A) (c : Chart K.ring A) (l : IsChart K.ring A c)

@@ -1,5 +1,3 @@
-pub mod ChartLaws
-pub mod Combinations
 pub mod Divisors
 pub mod Fractions
 pub mod Pieces

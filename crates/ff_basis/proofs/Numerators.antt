@@ -35,8 +35,8 @@ use Rattle.ff_data.specs.declared.order.Order.{Order}
 use Rattle.ff_data.specs.Orders.{chart_of, y_degree, IsOrder, InOrder, InResidues}
 use Rattle.ff_basis.specs.Blocks.{AreLowestRows, row_in, part_of, reversed_part}
 use Rattle.ff_basis.specs.OrderList.{Clears, IsLeastDenominator, IsVectorIn}
-use Rattle.ff_basis.proofs.ChartLaws.{algebra_laws, chart_laws, chart_degree}
-use Rattle.ff_basis.proofs.Combinations.{planes_combined, combined_flat}
+use Rattle.ff_data.proofs.ChartLaws.{algebra_laws, chart_laws, chart_degree}
+use Rattle.ff_data.proofs.PlaneCombinations.{planes_combined, combined_flat}
 use Rattle.ff_basis.proofs.Divisors.{lowest_divides, divisor_size, cross_size, monic_nonzero}
 use Rattle.ff_basis.proofs.Divisors.{monic_divisor_of_power}
 use Rattle.ff_basis.proofs.Fractions.{InSet, shape_D, clears, fraction_in, fraction_combined}

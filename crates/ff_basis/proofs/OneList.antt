@@ -30,7 +30,7 @@ use Rattle.ff_data.specs.declared.order.Chart.TheVariants.{Finite, Infinite}
 use Rattle.ff_data.specs.Orders.{chart_of, y_degree}
 use Rattle.ff_basis.specs.OrderList.{IsFraction, Clears, IsLeastDenominator, IsVectorIn}
 use Rattle.ff_basis.specs.OrderList.{IsOrderList, numerators_len}
-use Rattle.ff_basis.proofs.ChartLaws.{algebra_laws, chart_laws}
+use Rattle.ff_data.proofs.ChartLaws.{algebra_laws, chart_laws}
 use Rattle.ff_basis.proofs.Divisors.{difference_size, power_size}
 
 module _ (F : Elements ℕ) (L : Lawful F) (f : List (List ℕ)) (hf : IsPlane F f) (two : 1 < length f)

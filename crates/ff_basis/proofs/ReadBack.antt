@@ -38,7 +38,7 @@ use Rattle.ff_data.specs.declared.order.Chart.TheVariants.{Finite, Infinite}
 use Rattle.ff_data.specs.Orders.{chart_of, y_degree}
 use Rattle.ff_basis.specs.Blocks.{block, sum_of_blocks, IsFactor}
 use Rattle.ff_basis.specs.OrderList.{IsFraction}
-use Rattle.ff_basis.proofs.ChartLaws.{algebra_laws, chart_laws, has}
+use Rattle.ff_data.proofs.ChartLaws.{algebra_laws, chart_laws, has}
 use Rattle.ff_basis.proofs.Divisors.{power_size}
 use Rattle.ff_basis.proofs.Pieces.{listed-ext}
 

@@ -16,7 +16,6 @@ use Rattle.ff_charts.specs.FieldCharts.{finite_chart, infinite_chart}
 use Rattle.ff_charts.specs.Integral.{IsFiniteIntegral, IsInfinityIntegral}
 use Rattle.ff_charts.specs.Lattice.{InLattice, flat}
 use Rattle.ff_lin.specs.Space.{SpaceParts, IsSpaceOf, InSpace}
-use Rattle.ff_elem.specs.declared.elem.Elem.{Elem}
 use Rattle.ff_elem.specs.Elem.{algebra_in, elem_of, IsElem}
 use Rattle.ff_data.specs.declared.order.Chart.{Chart}
 use Rattle.ff_data.specs.declared.order.Chart.TheVariants.{Finite, Infinite}

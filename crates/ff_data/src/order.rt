@@ -1,4 +1,5 @@
 // Charts, separability and orders as plain data.
+use crate::system::System;
 use ff_elem::Elem;
 use ff_lin::Space;
 use ff_poly::{Plane, Poly};
@@ -31,7 +32,7 @@ pub struct Order {
     pub space: Space,
 }
 
-/// Why there is no answer for the equations `which`, 1 or 2.
+/// Why there is no answer; `which`, 1 or 2, is the equation that does not meet a premise.
 #[derive(Drop)]
 pub enum Refusal {
     /// The derivative of the equation in y is 0.
@@ -39,5 +40,11 @@ pub enum Refusal {
     /// The equation is a polynomial in x times g * h; both are normalised and have positive
     /// y-degree.
     Reducible { which: u8, g: Plane, h: Plane },
+    /// The maximal orders of the first field have no points.
+    NoRationalPlace { finite: Order, infinite: Order },
+    /// No point of the first field has a pole system within the pole limit.
+    PoleLimit,
+    /// The pole system of the first field has the gap number 0 or 1.
+    SmallGenus { system: System },
     NoMemory,
 }

@@ -45,19 +45,16 @@ use Rattle.ff_data.specs.declared.order.Chart.TheVariants.{Finite, Infinite}
 use Rattle.ff_data.specs.Orders.{IsSep, chart_of, different_of, slope_of, y_degree}
 use Rattle.ff_order.specs.declared.chart.ChartRows.{ChartRows}
 use Rattle.ff_order.specs.Rows.{IsChartRows}
-use Rattle.ff_order.specs.Quotients.{AreQuotients, IsRaisedQuotient}
+use Rattle.ff_data.specs.Quotients.{IsRaisedQuotient}
+use Rattle.ff_order.specs.Quotients.{AreQuotients}
 use Rattle.ff_order.proofs.FiniteRows.{quotients_value}
-use Rattle.ff_order.proofs.InfiniteRows.{inverted_b, quotients_product, quotients_residue}
+use Rattle.ff_quotients.proofs.QuotientResidues.{inverted_b, quotients_residue}
+use Rattle.ff_order.proofs.InfiniteRows.{quotients_product}
 
 -- a division by an equal divisor
 pub division-by : (R : RingOps) (a b d q r : Poly R) → b ≡ d → IsDivision R a b q r → (s : Poly R)
     × IsDivision R a d q s
 division-by R a b d q r e h = (r, subst (λ b. IsDivision R a b q r) e h)
-
--- and of an equal polynomial
-pub division-of : (R : RingOps) (a c b q r : Poly R) → a ≡ c → IsDivision R a b q r → (s : Poly R)
-    × IsDivision R c b q s
-division-of R a c b q r e h = (r, subst (λ a. IsDivision R a b q r) e h)
 
 -- a row is not wider than the widest
 pub row-width : (rows : List (List ℕ)) (i : ℕ) → length (get_or rows i []) ≤ x_size rows
@@ -81,17 +78,6 @@ pub ok_three : {T E : Type 0} (P Q S V : T → Type 0) (r : Result T E)
     → ((x : T) → P x → Q x → S x → V x) → IfOk r P → IfOk r Q → IfOk r S → IfOk r V
 ok_three P Q S V (Ok x) f p q s = f x p q s
 ok_three P Q S V (Err e) f p q s = p
-
--- x^h times a polynomial that is not 0
-pub raised-length : (F : Elements ℕ) (L : Lawful F) (by d : List ℕ) (h : ℕ)
-    → (polynomials F.ring).same (poly_of F d) (polynomials F.ring).zero ≡ false
-    → poly_of F by ≡ (polynomials F.ring).mul (power (polynomials F.ring) (variable F.ring) h)
-    (poly_of F d) → 0 < length by
-raised-length F L by d h nd e = let D = polynomial_domain (lawful_field L) in
-    let K = lawful_field L in
-    nonzero-length F L by (ap (λ t. D.same t D.zero) e ∙ D.no_divisors
-    (power D.ring (variable F.ring) h) (poly_of F d)
-    (power_nonzero D (variable F.ring) (size_nonzero K (variable F.ring) 1 (variable_size K)) h) nd)
 
 -- the rows of a plane
 pub plane-at : (F : Elements ℕ) (L : Lawful F) (a : List (List ℕ)) (i : ℕ)
@@ -146,22 +132,6 @@ module _ (F : Elements ℕ) (L : Lawful F) (f : List (List ℕ)) (hf : IsPlane F
         ≡ coeff (polynomials F.ring) (polys_of F a) i
     unfolding poly
     rows-at a i = trim-coeff D.ring D.laws D.tests (polys_of F a) i
-
-    -- the last row, as the code reads it
-    pub lead-is : (rows : List (List ℕ)) (a : List ℕ) → rows ≡ f → a
-        ≡ get_or rows (length rows - 1) a
-        → poly_of F a ≡ leading_row (lawful_field L) (plane_of F f)
-    lead-is rows a e h = ap (poly_of F) (h ∙ ap (λ r. get_or r (length r - 1) a) e)
-        ∙ sym (coeff-map D.ring (poly_of F) f (length f - 1) a (omega (arith, two)))
-        ∙ sym (rows-at f (length f - 1)) ∙ ap (coeff D.ring (plane_of F f).coeffs)
-        (let s : size (polynomials F.ring) (plane_of F f) ≡ length f = whole in
-        let t : length f - 1 ≡ length (plane_of F f).coeffs - 1 = omega (arith, s) in t)
-
-    pub lead-row : (rows : List (List ℕ)) (a : List ℕ) → rows ≡ f → a
-        ≡ get_or rows (length rows - 1) a
-        → IsPoly F a × (0 < length a)
-    lead-row rows a e h = last-row F L f (length f - 1) a hf (omega (arith, two))
-        (h ∙ ap (λ r. get_or r (length r - 1) a) e)
 
     pub den-length : (w : Elem) → IsElem L f w → 0 < length w.den
     den-length w hw = nonzero-length F L w.den (element-nonzero F L f w hw)
@@ -262,36 +232,6 @@ module _ (F : Elements ℕ) (L : Lawful F) (f : List (List ℕ)) (hf : IsPlane F
           (plane_of F r.multiple)) (sym ed) hr;
     }
 
-    -- the monic form has as many rows as f
-    pub monic-length : (m : List (List ℕ)) → IsPlane F m → plane_of F m
-        ≡ monic_form (polynomials F.ring) (plane_of F f) → length m ≡ length f
-    monic-length m hm e = let s : size (polynomials F.ring) (plane_of F m) ≡ length m
-        = plane-size F L m hm in
-        let t : size (polynomials F.ring) (plane_of F m)
-        ≡ size (polynomials F.ring) (monic_form (polynomials F.ring) (plane_of F f))
-        = ap (size (polynomials F.ring)) e in
-        let u : size (polynomials F.ring) (monic_form (polynomials F.ring) (plane_of F f))
-        ≡ suc (length f - 1) = form_size D.ring D.laws D.tests (plane_of F f) (length f - 1) has
-        (not_same D.ring D.tests D.one D.zero D.proper) in omega (arith, s, t, u, two)
-
-    pub slope-is : (m : List (List ℕ)) (e : ℕ) → IsPlane F m → plane_of F m
-        ≡ monic_form (polynomials F.ring) (plane_of F f)
-        → e ≡ slope F.ring (length m - 1) (plane_of F m) → e ≡ slope_of L f
-    slope-is m e hm v h = h ∙ ap₂ (λ n p. slope F.ring (n - 1) p) (monic-length m hm v) v
-
-    pub equation-is : (m r : List (List ℕ)) (e : ℕ) → IsPlane F m → plane_of F m
-        ≡ monic_form (polynomials F.ring) (plane_of F f)
-        → e ≡ slope F.ring (length m - 1) (plane_of F m)
-        → plane_of F r ≡ reversed F.ring (length m - 1) e (plane_of F m)
-        → plane_of F r ≡ (chart_of L f Infinite).equation
-    equation-is m r e hm v h hr = hr
-        ∙ ap₂ (λ n p. reversed F.ring n e p)
-        (let n : length m ≡ length f = monic-length m hm v in let d : C.degree ≡ length f - 1
-        = degree_is K g (length f - 1) has in let w : length m - 1
-        ≡ C.degree = omega (arith, n, d) in w)
-        v ∙ ap (λ e. reversed F.ring C.degree e (monic_form (polynomials F.ring) (plane_of F f)))
-        (slope-is m e hm v h)
-
     -- the slope fits
     fits : Fits F.ring (degree (lawful_field L) (plane_of F f))
         (monic_form (polynomials F.ring) (plane_of F f)) (slope_of L f)
@@ -352,7 +292,7 @@ module _ (F : Elements ℕ) (L : Lawful F) (f : List (List ℕ)) (hf : IsPlane F
       k = nonzero_size K (poly_of F sep.d) hs.nonzero
 
       abbrev b : A.carrier
-      b = inverted_b K A AL C CL t tu (slope_of L f) fits (y_degree L f - 1) degree-suc
+      b = inverted_b K A AL C CL t tu (slope_of L f) fits (y_degree L f - 1)
           (poly_of F sep.d) k.0 k.1 q.plane (length quotients) q.few within m
           (λ i. coeff (polynomials F.ring) (polys_of F quotients) i) R division small
 
@@ -371,7 +311,7 @@ module _ (F : Elements ℕ) (L : Lawful F) (f : List (List ℕ)) (hf : IsPlane F
           → IsResidue (chart_of L f Infinite)
           (power (polynomials F.ring) (variable F.ring) (suc m)) b M
       residue M few rows = quotients_residue K A AL C CL t tu (slope_of L f) fits
-          (y_degree L f - 1) degree-suc
+          (y_degree L f - 1)
           (poly_of F sep.d) k.0 k.1 q.plane (length quotients) q.few within m
           (λ i. coeff (polynomials F.ring) (polys_of F quotients) i) R division small M few rows
 

@@ -35,7 +35,8 @@ use Rattle.ff_order.specs.Rows.{IsChartRows}
 use Rattle.ff_order.specs.Steps.{HasResidueShape, HoldsIntegral, IsExact}
 use Rattle.ff_order.specs.Closing.{ArePlanesOf, HasMultiples, HasProducts, HasQuotientIn}
 use Rattle.ff_order.specs.Closing.{HasResidueIn, IsClosedSpace}
-use Rattle.ff_order.proofs.ChartLaws.{algebra_laws, chart_laws, integral_back}
+use Rattle.ff_data.proofs.ChartLaws.{algebra_laws, chart_laws}
+use Rattle.ff_order.proofs.ChartLaws.{integral_back}
 use Rattle.ff_order.proofs.ClosedSpace.{span_subspace, closed_span}
 use Rattle.ff_order.proofs.FirstSpace.{row_len_is}
 use Rattle.ff_order.proofs.Residues.{equation_len}

@@ -27,7 +27,7 @@ use Rattle.ff_data.specs.Orders.{chart_of, different_of, InResidues, y_degree}
 use Rattle.ff_order.specs.declared.chart.ChartRows.{ChartRows}
 use Rattle.ff_order.specs.Rows.{IsChartRows}
 use Rattle.ff_order.specs.Steps.{AreMultiples, IsStart, row_len}
-use Rattle.ff_order.proofs.ChartLaws.{algebra_laws, chart_laws, chart_degree}
+use Rattle.ff_data.proofs.ChartLaws.{algebra_laws, chart_laws, chart_degree}
 
 -- spans of families that agree
 pub span_agree : (R : RingOps) (laws : IsCommRing R) (n : ℕ) (w u : ℕ → ℕ → R.carrier)

@@ -1,5 +1,5 @@
 -- In the chart at t = 1/u: a power of t that an element of the power order makes from the
--- different, and the residue of that element, from quotients in u.
+-- different.
 use Rattle.std.proofs.Common.{◌≡◌, ℕ, zero, suc, pred, ◌+◌ as plus_ℕ, ◌-◌, ◌*◌ as times_ℕ, ◌<◌, ◌≤◌}
 use Rattle.std.proofs.Common.{◌⊎◌, inl, inr, false, refl, sym, ◌∙◌, ap, ap₂, arith}
 use Rattle.std.proofs.lemmas.Bool.{cases_lt}
@@ -20,6 +20,7 @@ use Rattle.ff_theory.proofs.Sums.{sum-ext, sum-add, sum-mul}
 use Rattle.ff_theory.proofs.Division.{top_nonzero, size-mul, zero_from}
 use Rattle.ff_theory.proofs.PolyMap.{polynomial_domain, same_false, size_nonzero, one_size}
 use Rattle.ff_theory.proofs.PolyMap.{zero_size}
+use Rattle.ff_quotients.proofs.QuotientResidues.{inverted_b, modulus_at}
 use Rattle.ff_charts.specs.Chart.{Chart, at_u, at_theta, InPowers, IsChart}
 use Rattle.ff_charts.specs.FieldCharts.{inverted}
 use Rattle.ff_charts.specs.Lattice.{IsResidue}
@@ -30,16 +31,6 @@ use Rattle.ff_charts.proofs.InvertedChart.{to_t, theta_sum, theta_sum_t, at_vari
 use Rattle.ff_charts.proofs.InvertedChart.{variable_size, inverted_is_chart}
 use Rattle.ff_conductor.proofs.Conductor.{different}
 use Rattle.ff_conductor.proofs.InvertedDifferent.{inverted_different}
-
--- the size of a power of the variable
-pub variable_power_size : (K : Field) (m : ℕ)
-    → size K.ring (power (polynomials K.ring) (variable K.ring) m) ≡ suc m
-variable_power_size K zero = one_size K
-variable_power_size K (suc m) = let s : size K.ring (power (polynomials K.ring) (variable K.ring)
-    (suc m)) ≡ suc (plus_ℕ 1 m) = size-mul K.ring K.laws K.tests K.inverse K.is_field
-    (variable K.ring) (power (polynomials K.ring) (variable K.ring) m) 1 m (variable_size K)
-    (variable_power_size K m) in
-    let z : suc (plus_ℕ 1 m) ≡ suc (suc m) = omega arith in s ∙ z
 
 module _ (K : Field) (A : RingOps) (AL : IsCommRing A) (c : Chart K.ring A) (l : IsChart K.ring A c)
     (t : A.carrier) (tu : A.mul t c.u ≡ A.one) (e : ℕ) (fits : Fits K.ring c.degree c.equation e)
@@ -55,35 +46,11 @@ module _ (K : Field) (A : RingOps) (AL : IsCommRing A) (c : Chart K.ring A) (l :
   infixl 70 ◌*◌
   open A use {add as ◌+◌, mul as ◌*◌, carrier as C}
 
-  abbrev P : Domain
-  P = polynomial_domain K
-
-  abbrev X : Poly K.ring
-  X = variable K.ring
-
-  abbrev B : Chart K.ring A
-  B = inverted c t e
-
-  BL : IsChart K.ring A (inverted c t e)
-  BL = inverted_is_chart K A AL c l t tu e fits
-
   abbrev E : C
   E = power A t e
 
   abbrev U : C
   U = power A c.u e
-
-  abbrev ψ : C
-  ψ = A.mul (power A t e) c.theta
-
-  abbrev row_at : ℕ → Poly K.ring
-  row_at i = coeff (polynomials K.ring) N.coeffs i
-
-  map : IsMap (polynomials K.ring) A (at_u c)
-  map = at_u_map K A AL c l
-
-  map_t : IsMap (polynomials K.ring) A (at_u (inverted c t e))
-  map_t = at_u_map K A AL B BL
 
   UE : (i : ℕ) → power A U i * power A E i ≡ A.one
   UE i = power-inverse A AL U E (AL.mul_comm E U ∙ power-inverse A AL c.u t tu e) i
@@ -91,134 +58,18 @@ module _ (K : Field) (A : RingOps) (AL : IsCommRing A) (c : Chart K.ring A) (l :
   nd : (polynomials K.ring).same d (polynomials K.ring).zero ≡ false
   nd = size_nonzero K d k hd
 
-  -- b / d, times powers of t and u
-  abbrev pub inverted_b : A.carrier
-  inverted_b = power A t (suc j) * (power A U n * (l.inverse d * at_theta c N))
-
-  modulus_at : at_u (inverted c t e) (power (polynomials K.ring) (variable K.ring) (suc j))
-      ≡ power A t (suc j)
-  modulus_at = map-power (polynomials K.ring) A (at_u B) map_t (variable K.ring) (suc j)
-      ∙ ap (λ s. power A s (suc j)) (at_variable K A AL c l t tu e fits t)
-
+  -- the product with the different at t is a power of t
   pub quotients_product : A.mul (at_theta c N) (different K A AL c l) ≡ at_u c d
-      → A.mul inverted_b
+      → A.mul (inverted_b K A AL c l t tu e fits n d k hd N r few within j Q R division small)
       (different K A AL (inverted c t e) (inverted_is_chart K A AL c l t tu e fits))
       ≡ at_u (inverted c t e) (power (polynomials K.ring) (variable K.ring) (suc j))
-  quotients_product product = ap (A.mul inverted_b)
+  quotients_product product = ap (A.mul (inverted_b K A AL c l t tu e fits n d k hd N r few within
+      j Q R division small))
       (inverted_different K A AL c l t tu e fits n has)
       ∙ ring6 A AL (λ t u i b e x. (t ⊗ (u ⊗ (i ⊗ b))) ⊗ (e ⊗ x))
       (λ t u i b e x. t ⊗ (u ⊗ e) ⊗ (i ⊗ (b ⊗ x))) refl (power A t (suc j)) (power A U n)
       (l.inverse d) (at_theta c N) (power A E n) (different K A AL c l)
       ∙ ap₂ (λ p q. power A t (suc j) * p * (l.inverse d * q)) (UE n) product
       ∙ ap (A.mul (power A t (suc j) * A.one)) (l.inverts d nd)
-      ∙ ring1 A AL (λ t. (t ⊗ unit) ⊗ unit) (λ t. t) refl (power A t (suc j)) ∙ sym modulus_at
-
-  -- a power of u
-  at_power : (h : ℕ) → at_u c (power (polynomials K.ring) (variable K.ring) h) ≡ power A c.u h
-  at_power h = map-power (polynomials K.ring) A (at_u c) map (variable K.ring) h
-      ∙ ap (λ s. power A s h) (at_variable K A AL c l t tu e fits c.u)
-
-  -- row i times its power of u, over d
-  row_over : (i : ℕ) → i < r → l.inverse d * (power A U n * power A U i * at_u c (row_at i))
-      ≡ at_u c (Q i) * c.u + l.inverse d * at_u c (R i)
-  row_over i q = ap (λ s. l.inverse d * (s * at_u c (row_at i)))
-      (sym (power-add A AL U n i) ∙ power-power A AL c.u e (plus_ℕ n i)
-      ∙ sym (at_power (times_ℕ (plus_ℕ n i) e)))
-      ∙ ap (A.mul (l.inverse d)) (sym (map.on_mul _ (row_at i)) ∙ ap (at_u c) (division i q).sum
-      ∙ map.on_add _ (R i) ∙ ap (λ s. s + at_u c (R i)) (map.on_mul (Q i) (P.mul X d)
-      ∙ ap (A.mul (at_u c (Q i))) (map.on_mul X d ∙ ap (λ s. s * at_u c d)
-      (at_variable K A AL c l t tu e fits c.u))))
-      ∙ ring6 A AL (λ i q u d r z. i ⊗ (q ⊗ (u ⊗ d) ⊕ r)) (λ i q u d r z. q ⊗ u ⊗ (i ⊗ d) ⊕ i ⊗ r)
-      refl (l.inverse d) (at_u c (Q i)) c.u (at_u c d) (at_u c (R i)) t
-      ∙ ap (λ s. at_u c (Q i) * c.u * s + l.inverse d * at_u c (R i)) (l.inverts d nd)
-      ∙ ap (λ s. s + l.inverse d * at_u c (R i)) (AL.mul_one _)
-
-  -- a power of theta by the one of t^e * theta
-  theta_power : (i : ℕ) → power A c.theta i ≡ power A U i * power A ψ i
-  theta_power i = ring1 A AL (λ s. s) (λ s. unit ⊗ s) refl (power A c.theta i)
-      ∙ ap (λ s. s * power A c.theta i) (sym (UE i)) ∙ AL.mul_assoc _ _ _
-      ∙ ap (A.mul (power A U i)) (sym (power-mul A AL E c.theta i))
-
-  term : (i : ℕ) → i < r → power A t (suc j) * (power A U n * (l.inverse d
-      * (at_u c (row_at i) * power A c.theta i)))
-      ≡ at_u B (reversal K.ring j (Q i)) * power A ψ i
-      + power A t (suc j) * (l.inverse d * at_u c (R i) * power A ψ i)
-  term i q = ap (λ s. power A t (suc j) * (power A U n * (l.inverse d * (at_u c (row_at i) * s))))
-      (theta_power i)
-      ∙ ring6 A AL (λ t u d r v p. t ⊗ (u ⊗ (d ⊗ (r ⊗ (v ⊗ p)))))
-      (λ t u d r v p. t ⊗ (d ⊗ (u ⊗ v ⊗ r)) ⊗ p) refl (power A t (suc j)) (power A U n)
-      (l.inverse d)
-      (at_u c (row_at i)) (power A U i) (power A ψ i)
-      ∙ ap (λ s. power A t (suc j) * s * power A ψ i) (row_over i q)
-      ∙ ring6 A AL (λ t s q u r p. (t ⊗ s) ⊗ (q ⊗ u ⊕ r) ⊗ p)
-      (λ t s q u r p. (s ⊗ q) ⊗ (t ⊗ u) ⊗ p ⊕ (t ⊗ s) ⊗ (r ⊗ p)) refl t (power A t j)
-      (at_u c (Q i)) c.u (l.inverse d * at_u c (R i)) (power A ψ i)
-      ∙ ap (λ s. s * power A ψ i + power A t (suc j) * (l.inverse d * at_u c (R i) * power A ψ i))
-      (ap₂ A.mul (to_t K A AL c l t tu e fits j (Q i) (small i q)) tu ∙ AL.mul_one _)
-
-  abbrev rest : C
-  rest = sum_below A r (λ i. l.inverse d * at_u c (R i) * power A ψ i)
-
-  remainder_size : (i : ℕ) → i < r → size K.ring (R i) ≤ suc k
-  remainder_size i q = let s : size K.ring (R i) < size K.ring (P.mul X d) = (division i q).smaller
-      in
-      let z : size K.ring (P.mul X d) ≡ suc (plus_ℕ 1 k) = size-mul K.ring K.laws K.tests K.inverse
-      K.is_field X d 1 k (variable_size K) hd in omega (arith, s, z)
-
-  rest_powers : InPowers (inverted c t e)
-      (sum_below A r (λ i. l.inverse d * at_u c (R i) * power A ψ i))
-  rest_powers = record {
-    unit = reversal K.ring k d;
-    is_unit = ap (λ a. K.same a K.zero)
-        (reversal_at K k d 0 (omega arith)
-        ∙ (let z : k - 0 ≡ k = omega arith in ap (coeff K.ring d.coeffs) z))
-        ∙ same_false K.ring K.tests _ K.zero (λ z. top_nonzero K.ring K.laws K.tests d k hd z);
-    nums = polynomial_of (polynomials K.ring) P.laws P.tests r (λ i. reversal K.ring k (R i));
-    clears = ap (λ p. p * rest) (sym (to_t K A AL c l t tu e fits k d (omega (arith, hd))))
-        ∙ sym (sum-mul A AL r (power A t k * at_u c d) _)
-        ∙ sum-ext A AL r _ _ (λ i q. ring6 A AL (λ t d i r p z. (t ⊗ d) ⊗ (i ⊗ r ⊗ p))
-        (λ t d i r p z. (i ⊗ d) ⊗ (t ⊗ r) ⊗ p) refl (power A t k) (at_u c d) (l.inverse d)
-        (at_u c (R i)) (power A ψ i) t
-        ∙ ap (λ s. s * power A ψ i) (ap₂ A.mul (l.inverts d nd)
-        (to_t K A AL c l t tu e fits k (R i) (remainder_size i q))
-        ∙ ring1 A AL (λ s. unit ⊗ s) (λ s. s) refl (at_u B (reversal K.ring k (R i)))))
-        ∙ sym (value_of_listed (polynomials K.ring) P.laws P.tests A AL (at_u B) map_t.on_zero
-        ψ r (λ i. reversal K.ring k (R i)));
-  }
-
-  pub quotients_residue : (M : Plane K) → size (polynomials K.ring) M ≤ r
-      → ((i : ℕ) → i < r → coeff (polynomials K.ring) M.coeffs i ≡ reversal K.ring j (Q i))
-      → IsResidue (inverted c t e) (power (polynomials K.ring) (variable K.ring) (suc j)) inverted_b
-      M
-  quotients_residue M fewM rows = record {
-    shape = record {
-      rows = omega (arith, fewM, within);
-      each = λ i. each i (cases_lt i r);
-    };
-    rest = rest;
-    in_powers = rest_powers;
-    sum = ap (λ s. power A t (suc j) * (power A U n * (l.inverse d * s)))
-        (theta_sum K A AL c l t tu e fits N r few)
-        ∙ ap (λ s. power A t (suc j) * (power A U n * s)) (sym (sum-mul A AL r (l.inverse d) _))
-        ∙ ap (λ s. power A t (suc j) * s) (sym (sum-mul A AL r (power A U n) _))
-        ∙ sym (sum-mul A AL r (power A t (suc j)) _)
-        ∙ sum-ext A AL r _ _ term
-        ∙ sum-add A AL r (λ i. at_u B (reversal K.ring j (Q i)) * power A ψ i)
-        (λ i. power A t (suc j) * (l.inverse d * at_u c (R i) * power A ψ i))
-        ∙ ap₂ A.add (sum-ext A AL r _ _ (λ i q. ap (λ h. at_u B h * power A ψ i) (sym (rows i q)))
-        ∙ sym (theta_sum_t K A AL c l t tu e fits M r fewM))
-        (sum-mul A AL r (power A t (suc j)) (λ i. l.inverse d * at_u c (R i) * power A ψ i)
-        ∙ ap (λ s. s * rest) (sym modulus_at));
-  }
-    where
-      each : (i : ℕ) → (i < r) ⊎ (r ≤ i) → size K.ring (coeff (polynomials K.ring) M.coeffs i)
-          ≤ pred (size K.ring (power (polynomials K.ring) (variable K.ring) (suc j)))
-      each i (inl q) = let s : size K.ring (coeff (polynomials K.ring) M.coeffs i)
-          ≡ size K.ring (reversal K.ring j (Q i)) = ap (size K.ring) (rows i q) in
-          let b : size K.ring (reversal K.ring j (Q i)) ≤ suc j = reversal_size K j (Q i) in
-          let z : size K.ring (power (polynomials K.ring) (variable K.ring) (suc j)) ≡ suc (suc j)
-          = variable_power_size K (suc j) in omega (arith, s, b, z)
-      each i (inr q) = let s : size K.ring (coeff (polynomials K.ring) M.coeffs i)
-          ≡ size K.ring P.zero = ap (size K.ring) (zero_from (polynomials K.ring) P.laws P.tests M i
-          (omega (arith, fewM, q))) in
-          let z : size K.ring P.zero ≡ 0 = zero_size K in omega (arith, s, z)
+      ∙ ring1 A AL (λ t. (t ⊗ unit) ⊗ unit) (λ t. t) refl (power A t (suc j)) ∙ sym (modulus_at K A
+      AL c l t tu e fits n d k hd N r few within j Q R division small)

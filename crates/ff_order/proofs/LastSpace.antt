@@ -33,7 +33,8 @@ use Rattle.ff_order.specs.declared.chart.ChartRows.{ChartRows}
 use Rattle.ff_order.specs.Rows.{IsChartRows}
 use Rattle.ff_order.specs.Steps.{IsStart, IsTurn, HoldsIntegral, IsExact, IsResidueSpace, row_len}
 use Rattle.ff_order.specs.Steps.{HasResidueShape}
-use Rattle.ff_order.proofs.ChartLaws.{algebra_laws, chart_laws, chart_degree, integral_into}
+use Rattle.ff_data.proofs.ChartLaws.{algebra_laws, chart_laws, chart_degree}
+use Rattle.ff_order.proofs.ChartLaws.{integral_into}
 use Rattle.ff_order.proofs.ChartLaws.{integral_back}
 use Rattle.ff_order.proofs.FirstSpace.{row_len_is}
 

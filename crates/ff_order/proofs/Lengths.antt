@@ -11,7 +11,7 @@ use Rattle.ff_charts.specs.Lattice.{HasShape}
 use Rattle.ff_data.specs.declared.order.Chart.{Chart}
 use Rattle.ff_data.specs.Orders.{chart_of}
 use Rattle.ff_order.specs.Steps.{row_len, HasResidueShape}
-use Rattle.ff_order.proofs.ChartLaws.{chart_degree}
+use Rattle.ff_data.proofs.ChartLaws.{chart_degree}
 use Rattle.ff_order.proofs.FirstSpace.{row_len_is}
 
 pub row_pushed : {V : Type 0} (F : Elements ℕ) (items : V → List ℕ) (xs : List V) (y : V)

@@ -29,7 +29,7 @@ use Rattle.ff_data.specs.declared.order.Chart.{Chart}
 use Rattle.ff_data.specs.Orders.{chart_of, y_degree}
 use Rattle.ff_order.specs.Steps.{row_len, HasResidueShape, IsResidueRow, KeepsRows, IsPowerRow}
 use Rattle.ff_order.specs.Steps.{times_power}
-use Rattle.ff_order.proofs.ChartLaws.{algebra_laws, chart_laws, chart_degree}
+use Rattle.ff_data.proofs.ChartLaws.{algebra_laws, chart_laws, chart_degree}
 use Rattle.ff_order.proofs.FirstSpace.{row_len_is}
 use Rattle.ff_order.proofs.Lengths.{len_is}
 

@@ -18,7 +18,7 @@ use Rattle.ff_order.specs.Closing.{IsPlaneOf}
 use Rattle.ff_order.specs.Rows.{IsChartRows}
 use Rattle.ff_order.specs.Steps.{row_len, KeepsResidues, KeepsRows, IsMultipleRow, IsResidueRow}
 use Rattle.ff_order.specs.Steps.{times_monomial}
-use Rattle.ff_order.proofs.ChartLaws.{algebra_laws}
+use Rattle.ff_data.proofs.ChartLaws.{algebra_laws}
 use Rattle.ff_order.proofs.FirstSpace.{row_len_is}
 use Rattle.ff_order.proofs.Monomials.{index_whole}
 

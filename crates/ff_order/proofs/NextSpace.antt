@@ -33,7 +33,7 @@ use Rattle.ff_data.specs.Orders.{chart_of, InResidues, y_degree}
 use Rattle.ff_order.specs.declared.chart.ChartRows.{ChartRows}
 use Rattle.ff_order.specs.Rows.{IsChartRows}
 use Rattle.ff_order.specs.Steps.{ArePowers, AreScaled, IsTurn, row_len, HasResidueShape}
-use Rattle.ff_order.proofs.ChartLaws.{algebra_laws, chart_laws, chart_degree}
+use Rattle.ff_data.proofs.ChartLaws.{algebra_laws, chart_laws, chart_degree}
 use Rattle.ff_order.proofs.FirstSpace.{chosen, row_len_is}
 use Rattle.ff_order.proofs.LastSpace.{char}
 

@@ -35,7 +35,7 @@ use Rattle.ff_order.specs.Rows.{IsChartRows}
 use Rattle.ff_order.specs.Steps.{HasResidueShape, row_len}
 use Rattle.ff_order.specs.Level.{IsImage, AreImages, HoldsPassed, test_sum, part_at}
 use Rattle.ff_order.specs.Closing.{IsPlaneOf}
-use Rattle.ff_order.proofs.ChartLaws.{algebra_laws, chart_laws, chart_degree}
+use Rattle.ff_data.proofs.ChartLaws.{algebra_laws, chart_laws, chart_degree}
 use Rattle.ff_elem.proofs.Reduction.{plane-size}
 use Rattle.ff_order.proofs.ClosedSpace.{plane_is}
 use Rattle.ff_order.proofs.FirstSpace.{chosen, row_len_is}

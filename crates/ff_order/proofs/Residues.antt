@@ -19,7 +19,7 @@ use Rattle.ff_data.specs.Orders.{chart_of}
 use Rattle.ff_order.specs.declared.chart.ChartRows.{ChartRows}
 use Rattle.ff_order.specs.Rows.{IsChartRows}
 use Rattle.ff_order.specs.Steps.{KeepsResidues}
-use Rattle.ff_order.proofs.ChartLaws.{algebra_laws, chart_laws}
+use Rattle.ff_data.proofs.ChartLaws.{algebra_laws, chart_laws}
 use Rattle.ff_order.proofs.Products.{product_residue}
 
 module _ (F : Elements ℕ) (L : Lawful F) (f : List (List ℕ)) (hf : IsPlane F f) (two : 1 < length f)

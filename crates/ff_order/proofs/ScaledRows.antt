@@ -18,7 +18,7 @@ use Rattle.ff_order.specs.declared.images.PowerImages.{PowerImages}
 use Rattle.ff_order.specs.Rows.{IsChartRows}
 use Rattle.ff_order.specs.Steps.{row_len, HasResidueShape, ArePowerImages, ArePowers}
 use Rattle.ff_order.specs.Steps.{AreCoefficients}
-use Rattle.ff_order.proofs.Combinations.{kept-exact}
+use Rattle.ff_quotients.proofs.KeptVectors.{kept-exact}
 use Rattle.ff_order.specs.Steps.{IsScaledRow, IsTurn}
 use Rattle.ff_order.proofs.Lengths.{shape_run, shape_back, len_is}
 use Rattle.ff_order.proofs.NextSpace.{power_modulus, scaled_shape, next_space}

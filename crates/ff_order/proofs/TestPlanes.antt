@@ -23,7 +23,7 @@ use Rattle.ff_data.specs.Orders.{chart_of, different_of, y_degree}
 use Rattle.ff_order.specs.declared.chart.ChartRows.{ChartRows}
 use Rattle.ff_order.specs.Rows.{IsChartRows}
 use Rattle.ff_order.specs.Level.{test_element, IsTestPlane}
-use Rattle.ff_order.proofs.ChartLaws.{algebra_laws, chart_laws, chart_degree}
+use Rattle.ff_data.proofs.ChartLaws.{algebra_laws, chart_laws, chart_degree}
 use Rattle.ff_order.proofs.Closing.{product_value}
 use Rattle.ff_order.proofs.Products.{power_step}
 use Rattle.ff_order.proofs.Residues.{equation_len}

@@ -27,7 +27,8 @@ use Rattle.ff_order.specs.Rows.{IsChartRows}
 use Rattle.ff_lin.specs.Space.{SpaceParts}
 use Rattle.ff_order.specs.Steps.{HoldsIntegral}
 use Rattle.ff_order.specs.Level.{IsTestPlane, AreRowParts, HoldsPassed, test_sum, part_at}
-use Rattle.ff_order.proofs.ChartLaws.{algebra_laws, chart_laws, chart_degree, integral_into}
+use Rattle.ff_data.proofs.ChartLaws.{algebra_laws, chart_laws, chart_degree}
+use Rattle.ff_order.proofs.ChartLaws.{integral_into}
 use Rattle.ff_order.proofs.FirstSpace.{chosen}
 use Rattle.ff_order.proofs.LastSpace.{is_suc, more, roots, char, charP, D_is, product, nd}
 

@@ -14,7 +14,7 @@ use Rattle.ff_charts.proofs.InvertedChart.{at_x}
 use Rattle.ff_elem.specs.Elem.{algebra_in}
 use Rattle.ff_data.specs.declared.order.Chart.{Chart}
 use Rattle.ff_data.specs.Orders.{chart_of}
-use Rattle.ff_order.proofs.ChartLaws.{algebra_laws, chart_laws}
+use Rattle.ff_data.proofs.ChartLaws.{algebra_laws, chart_laws}
 
 module _ (F : Elements ℕ) (L : Lawful F) (f : List (List ℕ)) (hf : IsPlane F f) (two : 1 < length f)
     (chart : Chart) where

@@ -1,22 +1,17 @@
 -- The rows that an element of the finite power order makes at infinity, for an equation f over a
 -- field whose laws are L.
 use Rattle.std.specs.Prelude.{◌≡◌, ℕ, ◌+◌, ◌-◌, ◌*◌, ◌<◌, ◌≤◌, List, length}
-use Rattle.ff_theory.specs.Ring.{Elements, power}
+use Rattle.ff_theory.specs.Ring.{Elements}
 use Rattle.ff_theory.specs.Lawful.{Lawful}
 use Rattle.ff_theory.specs.Poly.{coeff, Poly, polynomials}
-use Rattle.ff_theory.specs.Division.{size, IsDivision}
+use Rattle.ff_theory.specs.Division.{size}
 use Rattle.ff_theory.specs.Monomial.{variable}
 use Rattle.ff_theory.specs.Values.{polys_of, ArePolys}
 use Rattle.ff_charts.specs.Chart.{at_theta}
 use Rattle.ff_elem.specs.Elem.{algebra_in}
 use Rattle.ff_data.specs.declared.order.Chart.TheVariants.{Finite}
 use Rattle.ff_data.specs.Orders.{y_degree, chart_of}
-
--- q is the quotient of x^h * row by b
-abbrev pub IsRaisedQuotient : (F : Elements ℕ) (b : Poly F.ring) (h : ℕ) (row q : Poly F.ring)
-    → Type 0
-IsRaisedQuotient F b h row q = (s : Poly F.ring) × IsDivision F.ring
-    ((polynomials F.ring).mul (power (polynomials F.ring) (variable F.ring) h) row) b q s
+use Rattle.ff_data.specs.Quotients.{IsRaisedQuotient}
 
 module _ {F : Elements ℕ} (L : Lawful F) (f : List (List ℕ)) where
   -- row i is the quotient of x^((n - 1 + i) * e) times row i of b in powers of y' by x * d, with n

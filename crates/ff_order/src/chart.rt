@@ -13,10 +13,10 @@ ghost use Rattle.ff_data.specs.Orders.{IsSep, chart_of};
 ghost use Rattle.ff_order.specs.Rows.{IsChartRows};
 
 use crate::elements::{finite_theta, infinite_theta};
-use crate::infinite::{equation_at_infinity, quotients_at_infinity, reversals, variable_power};
-use crate::monic::{monic_of, rows_at_monic};
+use crate::infinite::quotients_at_infinity;
+use crate::monic::rows_at_monic;
 use ff_alg::{FiniteField, NoMemory};
-use ff_data::{Chart, Sep};
+use ff_data::{Chart, Sep, equation_at_infinity, monic_of, reversals, variable_power};
 use ff_elem::{Alg, Elem};
 use ff_lattice::residues;
 use ff_poly::rows::width;

@@ -10,9 +10,8 @@ ghost use Rattle.ff_elem.specs.Elem.{ElemIs, algebra_in};
 ghost use Rattle.ff_data.specs.declared.order.Chart.TheVariants.{Finite, Infinite};
 ghost use Rattle.ff_data.specs.Orders.{chart_of};
 
-use crate::infinite::{equation_at_infinity, variable_power};
-use crate::monic::leading;
 use ff_alg::{FiniteField, NoMemory};
+use ff_data::{equation_at_infinity, leading, variable_power};
 use ff_elem::{Alg, Elem};
 use ff_poly::rows::single;
 use ff_poly::{Plane, Poly};

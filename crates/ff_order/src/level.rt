@@ -16,11 +16,10 @@ ghost use Rattle.ff_order.specs.Level.{lists_of, part_at, test_sum, AreRowParts,
 ghost use Rattle.ff_order.specs.Level.{IsImage, AreImages, HoldsPassed, HaveParts};
 
 use crate::chart::ChartRows;
-use crate::combine::combinations;
 use crate::different::row_parts;
 use crate::vectors::residue_plane;
 use ff_alg::{FiniteField, NoMemory};
-use ff_data::Chart;
+use ff_data::{Chart, combinations};
 use ff_elem::Alg;
 use ff_lin::Space;
 use ff_poly::{Plane, Poly};

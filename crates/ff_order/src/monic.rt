@@ -1,85 +1,20 @@
-// The monic form of an equation f, and elements of the finite power order by rows in powers of y'.
+// Elements of the finite power order by rows in powers of y'.
 ghost use Rattle.std.specs.Prelude.{◌≡◌, ℕ, ◌<◌, ◌≤◌, ◌-◌, length, IfOk};
 ghost use Rattle.ff_theory.specs.Ring.{power};
-ghost use Rattle.ff_theory.specs.Lawful.{lawful_field};
 ghost use Rattle.ff_theory.specs.Poly.{coeff};
 ghost use Rattle.ff_theory.specs.Division.{IsDivision};
 ghost use Rattle.ff_theory.specs.Values.{poly_of, IsPoly, polys_over, polys_of, ArePolys};
 ghost use Rattle.ff_theory.specs.Values.{plane_of, IsPlane};
-ghost use Rattle.ff_theory.specs.Monic.{monic_form};
 ghost use Rattle.ff_charts.specs.Chart.{at_theta, InPowers};
-ghost use Rattle.ff_charts.specs.FieldCharts.{leading_row};
 ghost use Rattle.ff_elem.specs.Elem.{elem_of, IsElem};
 ghost use Rattle.ff_data.specs.declared.order.Chart.TheVariants.{Finite};
 ghost use Rattle.ff_data.specs.Orders.{chart_of};
 
 use ff_alg::{FiniteField, NoMemory};
+use ff_data::{leading, times_power};
 use ff_elem::{Alg, Elem};
 use ff_poly::{Plane, Poly};
 use std::alloc::Global;
-
-/// A number as an exponent; `NoMemory` where it passes u32.
-fn exponent(n: usize) -> Result<u32, NoMemory>
-    ensures { IfOk result (λ r. r ≡ n) }
-{
-    if n > u32::MAX as usize {
-        return Err(NoMemory);
-    }
-    Ok(n as u32)
-}
-
-/// The product of a row and a power.
-pub(crate) fn times_power<K: FiniteField<E = u32>>(
-    alloc: Global,
-    k: &K,
-    row: &Poly,
-    base: &Poly,
-    n: usize,
-) -> Result<Poly, NoMemory>
-    requires row { IsPoly (K.elements k.now) row.now }
-    requires base { IsPoly (K.elements k.now) base.now }
-    ensures poly { IfOk result (IsPoly (K.elements k.now)) }
-    ensures value { let F = K.elements k.now in let P = polys_over F in
-        IfOk result (λ r. poly_of F r ≡
-        P.mul (poly_of F row.now) (power P (poly_of F base.now) n)) }
-{
-    let factor = base.power(alloc, k, exponent(n)?)?;
-    row.mul(alloc, k, &factor)
-}
-
-/// The rows of the monic form.
-fn monic_rows<K: FiniteField<E = u32>>(
-    alloc: Global,
-    k: &K,
-    rows: &[Poly],
-) -> Result<Vec<Poly>, NoMemory>
-    requires plane { IsPlane (K.elements k.now) rows.now }
-    requires has_y { 1 < length rows.now }
-    ensures each { IfOk result (λ r. ArePolys (K.elements k.now) r.items) }
-    ensures value { let F = K.elements k.now in let P = polys_over F in
-        IfOk result (λ r. plane_of F r.items ≡ monic_form P (plane_of F rows.now)) }
-{
-    let n = rows.len() - 1;
-    let mut form = Vec::with_capacity(alloc, rows.len())?;
-    for i in 0..n {
-        form.push(times_power(alloc, k, &rows[i], &rows[n], n - 1 - i)?)?;
-    }
-    form.push(Poly::one(alloc, k)?)?;
-    Ok(form)
-}
-
-/// The monic form of the equation.
-pub(crate) fn monic_of<K: FiniteField<E = u32>>(
-    alloc: Global,
-    alg: &Alg<K>,
-) -> Result<Plane, NoMemory>
-    ensures plane { IfOk result (IsPlane (K.elements alg.now.k)) }
-    ensures value { let F = K.elements alg.now.k in let P = polys_over F in
-        IfOk result (λ r. plane_of F r ≡ monic_form P (plane_of F alg.now.f)) }
-{
-    let rows = monic_rows(alloc, &alg.k, alg.f.rows())?;
-    Ok(Plane::from_vec(&alg.k, rows))
-}
 
 /// The quotient of a row by `den * lead^i`.
 fn quotient_by<K: FiniteField<E = u32>>(
@@ -133,17 +68,6 @@ fn quotients_by<K: FiniteField<E = u32>>(
         quotients.push(quotient_by(alloc, k, &rows[i], den, lead, i)?)?;
     }
     Ok(quotients)
-}
-
-/// The leading row of the equation.
-pub(crate) fn leading<K: FiniteField<E = u32>>(alg: &Alg<K>) -> &Poly
-    ensures poly { IsPoly (K.elements alg.now.k) result.now }
-    ensures nonzero { 0 < length result.now }
-    ensures value { let F = K.elements alg.now.k in let L = K.lawful alg.now.k in
-        poly_of F result.now ≡ leading_row (lawful_field L) (plane_of F alg.now.f) }
-{
-    let rows = alg.f.rows();
-    &rows[rows.len() - 1]
 }
 
 /// The rows in powers of y' of an element of the finite power order.

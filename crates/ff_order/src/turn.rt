@@ -9,10 +9,10 @@ ghost use Rattle.ff_order.specs.Steps.{IsScaledRow, AreScaled, ArePowerImages, I
 ghost use Rattle.ff_order.specs.Steps.{IsScaledSpace, AreCoefficients, IsTurn};
 
 use crate::chart::ChartRows;
-use crate::combine::{combinations, semi_combinations};
+use crate::combine::semi_combinations;
 use crate::images::{PowerImages, vector_len};
 use ff_alg::{FiniteField, NoMemory};
-use ff_data::Chart;
+use ff_data::{Chart, combinations};
 use ff_elem::Alg;
 use ff_lattice::{plane_of_vector, vector_of_plane};
 use ff_lin::Space;

@@ -20,8 +20,14 @@ module _ (K : Elements ℕ) (L : Lawful K) (g : List (List ℕ)) (p : Pair) wher
 
   pub small-pair : IsPlane K g → 1 < length g → IsPair L g p → IsSmallPair K (length g) p
   small-pair hg has h = record {
-    polys = pair-polys h;
-    x = omega (arith, element-count K L g p.x hg has h.x);
-    y = omega (arith, element-count K L g p.y hg has h.y);
-    some = omega (arith, has);
+    x = record {
+      parts = (pair-polys h).x;
+      count = omega (arith, element-count K L g p.x hg has h.x);
+      some = omega (arith, has);
+    };
+    y = record {
+      parts = (pair-polys h).y;
+      count = omega (arith, element-count K L g p.y hg has h.y);
+      some = omega (arith, has);
+    };
   }

@@ -39,6 +39,14 @@ module _ (K : Elements ℕ) where
     pub before : AreMultiplesBy c planes new
     pub end : IsMultipleBy d rows (get_or new (length planes) [])
 
+  -- the like over a denominator
+  pub record IsAppendedOver (den c : List ℕ) (planes : List (List (List ℕ))) (d : List ℕ)
+      (rows : List (List ℕ)) (new : Cleared) : Type 0 where
+    pub over : new.den ≡ den
+    pub count : length new.planes ≡ length planes + 1
+    pub each : ArePlanes K new.planes
+    pub appended : IsAppendedBy c planes d rows new.planes
+
   -- the coefficients of x^i, x^(i + 1) and so on times the entries, added
   abbrev pub block_of : (p : List ℕ) → ℕ → List (List (List ℕ)) → Poly (polynomials K.ring)
   block_of p i planes = plane_combination K.ring (length planes) (λ j. constant_after K p i j)

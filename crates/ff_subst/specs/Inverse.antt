@@ -19,12 +19,15 @@ pub record ArePairPolys (K : Elements ℕ) (p : Pair) : Type 0 where
   pub x : ArePartsPolys K p.x
   pub y : ArePartsPolys K p.y
 
--- with at most n numerators each, for n from 1 on
-pub record IsSmallPair (K : Elements ℕ) (n : ℕ) (p : Pair) : Type 0 where
-  pub polys : ArePairPolys K p
-  pub x : length p.x.num ≤ n
-  pub y : length p.y.num ≤ n
+-- with at most n numerators, for n from 1 on
+pub record IsSmallPart (K : Elements ℕ) (n : ℕ) (e : Elem) : Type 0 where
+  pub parts : ArePartsPolys K e
+  pub count : length e.num ≤ n
   pub some : 1 ≤ n
+
+pub record IsSmallPair (K : Elements ℕ) (n : ℕ) (p : Pair) : Type 0 where
+  pub x : IsSmallPart K n p.x
+  pub y : IsSmallPart K n p.y
 
 module _ {K : Elements ℕ} (L : Lawful K) where
   -- the product with some element of E(g) is 1
@@ -32,10 +35,14 @@ module _ {K : Elements ℕ} (L : Lawful K) where
     pub inverse : (algebra_in L g).carrier
     pub inverts : (algebra_in L g).mul inverse a ≡ (algebra_in L g).one
 
+  -- a polynomial in x at X
+  abbrev pub polynomial_at : (g : List (List ℕ)) → (algebra_in L g).carrier → List ℕ
+      → (algebra_in L g).carrier
+  polynomial_at g X p = poly_at (lawful_field L) (plane_of K g) X (poly_of K p)
+
   -- the numerator of s at X and Y is v times its denominator at X
   abbrev pub IsQuotientAt : (g : List (List ℕ)) → Elem → (X Y v : (algebra_in L g).carrier) → Type 0
-  IsQuotientAt g s X Y v = (algebra_in L g).mul v
-      (poly_at (lawful_field L) (plane_of K g) X (poly_of K s.den))
+  IsQuotientAt g s X Y v = (algebra_in L g).mul v (polynomial_at g X s.den)
       ≡ plane_at_pair (lawful_field L) (plane_of K g) X Y (plane_of K s.num)
 
   -- the numerator of s at the pair is v times d

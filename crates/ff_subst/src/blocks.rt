@@ -1,11 +1,11 @@
 // A polynomial in x at an element X, exactly: it is cut into blocks of as many coefficients as
 // there are powers of X at hand, and the blocks are put together by Horner's rule.
-ghost use Rattle.std.specs.Prelude.{◌≡◌, ◌<◌, length, IfOk};
+ghost use Rattle.std.specs.Prelude.{◌≡◌, ◌<◌, ℕ, length, IfOk};
 ghost use Rattle.ff_theory.specs.Lawful.{lawful_field};
 ghost use Rattle.ff_theory.specs.Values.{poly_of, IsPoly, plane_of};
 ghost use Rattle.ff_elem.specs.Elem.{algebra_in, elem_of, IsElem};
 ghost use Rattle.ff_data.specs.Substitution.{poly_at};
-ghost use Rattle.ff_subst.specs.Cleared.{ArePowers, IsPowerList, block_step};
+ghost use Rattle.ff_subst.specs.Cleared.{IsCleared, AreCleared, ArePowers, IsPowerList, block_step};
 
 use crate::cleared::{Cleared, append, nothing, plus_combination};
 use ff_alg::{FiniteField, NoMemory};
@@ -22,6 +22,51 @@ pub struct PowerList {
     pub next: Elem,
 }
 
+// The element 1 as a list.
+fn unit<K: FiniteField<E = u32>>(alloc: Global, alg: &Alg<K>) -> Result<Cleared, NoMemory>
+    ensures cleared { IfOk result (IsCleared (K.elements alg.now.k)) }
+    ensures count { IfOk result (λ r. length r.planes ≡ 1) }
+    ensures element { let L = K.lawful alg.now.k in let f = alg.now.f in let A = algebra_in L f in
+        IfOk result (λ r. (u : ℕ → A.carrier) → A.one ≡ u 0 → AreCleared L f u r) }
+{
+    let none = nothing(alloc, &alg.k)?;
+    let one = alg.one(alloc)?;
+    append(alloc, alg, none, &one)
+}
+
+// The power 1 of x, and x as the next one.
+fn first_power<K: FiniteField<E = u32>>(
+    alloc: Global,
+    alg: &Alg<K>,
+    x: &Elem,
+) -> Result<PowerList, NoMemory>
+    requires { IsElem (K.lawful alg.now.k) alg.now.f x.now }
+    ensures { let L = K.lawful alg.now.k in let f = alg.now.f in
+        IfOk result (ArePowers L f (elem_of L f x.now)) }
+{
+    let list = unit(alloc, alg)?;
+    let next = x.copy(alloc)?;
+    Ok(PowerList { list, next })
+}
+
+// One power of x more.
+fn more_powers<K: FiniteField<E = u32>>(
+    alloc: Global,
+    alg: &Alg<K>,
+    x: &Elem,
+    at: PowerList,
+) -> Result<PowerList, NoMemory>
+    requires x { IsElem (K.lawful alg.now.k) alg.now.f x.now }
+    requires at { let L = K.lawful alg.now.k in let f = alg.now.f in
+        ArePowers L f (elem_of L f x.now) at }
+    ensures { let L = K.lawful alg.now.k in let f = alg.now.f in
+        IfOk result (ArePowers L f (elem_of L f x.now)) }
+{
+    let list = append(alloc, alg, at.list, &at.next)?;
+    let next = alg.mul(alloc, x, &at.next)?;
+    Ok(PowerList { list, next })
+}
+
 // The powers of x from 0 on, `count` of them, and the next one.
 pub fn power_list<K: FiniteField<E = u32>>(
     alloc: Global,
@@ -34,13 +79,11 @@ pub fn power_list<K: FiniteField<E = u32>>(
     ensures { let L = K.lawful alg.now.k in let f = alg.now.f in
         IfOk result (ArePowers L f (elem_of L f x.now)) }
 {
-    let mut next = alg.one(alloc)?;
-    let mut list = nothing(alloc, &alg.k)?;
-    for _i in 0..count {
-        list = append(alloc, alg, list, &next)?;
-        next = alg.mul(alloc, x, &next)?;
+    let mut at = first_power(alloc, alg, x)?;
+    for _i in 1..count {
+        at = more_powers(alloc, alg, x, at)?;
     }
-    Ok(PowerList { list, next })
+    Ok(at)
 }
 
 // One step of Horner's rule: the value times the power after the last one, and the coefficients of

@@ -8,7 +8,8 @@ ghost use Rattle.ff_theory.specs.Values.{IsPoly, plane_of, IsPlane, ArePolys};
 ghost use Rattle.ff_elem.specs.Elem.{algebra_in, elem_of, IsElem};
 ghost use Rattle.ff_subst.specs.Congruence.{ArePlanes};
 ghost use Rattle.ff_subst.specs.Cleared.{IsCleared, AreCleared, IsCommonMultiple, linear_sum};
-ghost use Rattle.ff_subst.specs.Cleared.{AreMultiplesBy, IsAppendedBy, block_of, IsMixture};
+ghost use Rattle.ff_subst.specs.Cleared.{AreMultiplesBy, IsAppendedBy, IsAppendedOver};
+ghost use Rattle.ff_subst.specs.Cleared.{block_of, IsMixture};
 
 use crate::evaluation::plus_multiple;
 use crate::powers::zero_plane;
@@ -122,6 +123,26 @@ fn append_rows<K: FiniteField<E = u32>>(
     Ok(list)
 }
 
+// The like over a denominator.
+fn append_over<K: FiniteField<E = u32>>(
+    alloc: Global,
+    k: &K,
+    den: Poly,
+    c: &Poly,
+    planes: PlaneList,
+    d: &Poly,
+    rows: &[Poly],
+) -> Result<Cleared, NoMemory>
+    requires c { IsPoly (K.elements k.now) c.now }
+    requires planes { ArePlanes (K.elements k.now) planes }
+    requires d { IsPoly (K.elements k.now) d.now }
+    requires rows { ArePolys (K.elements k.now) rows.now }
+    ensures { IfOk result (IsAppendedOver (K.elements k.now) den c.now planes d.now rows.now) }
+{
+    let planes = append_rows(alloc, k, c, planes, d, rows)?;
+    Ok(Cleared { den, planes })
+}
+
 // The list times c, and at its end an element times d.
 fn append_multiple<K: FiniteField<E = u32>>(
     alloc: Global,
@@ -141,8 +162,7 @@ fn append_multiple<K: FiniteField<E = u32>>(
         elem_of L f e.now ≡ u (length list.planes) → AreCleared L f u r) }
 {
     let den = c.mul(alloc, &alg.k, &list.den)?;
-    let planes = append_rows(alloc, &alg.k, c, list.planes, d, e.num.rows())?;
-    Ok(Cleared { den, planes })
+    append_over(alloc, &alg.k, den, c, list.planes, d, e.num.rows())
 }
 
 // The list with one element more.

@@ -5,16 +5,16 @@ ghost use Rattle.ff_theory.specs.Values.{IsPoly, IsPlane};
 ghost use Rattle.ff_elem.specs.Elem.{elem_of, IsElem};
 ghost use Rattle.ff_data.specs.Pairs.{IsPair, Satisfies, HasValue, ValueIs, IsInversePair};
 ghost use Rattle.ff_theory.specs.Values.{ArePolys};
+ghost use Rattle.ff_subst.specs.Congruence.{IsModulus};
 
-use crate::blocks::{element_count, plane_count, power_list, value_of_poly};
+use crate::blocks::{element_count, power_list, value_of_poly};
 use crate::modulus::{modulus, seed_of};
-use crate::powers::prepare;
-use crate::tests::{may_invert, vanishes};
-use crate::values::{inverts, is_zero_at, value_of_rows};
+use crate::tests::{may_invert, may_satisfy_modulo};
+use crate::values::{inverts, is_zero, value_of_rows};
 use ff_alg::{FiniteField, NoMemory, Steps};
 use ff_data::Pair;
 use ff_elem::{Alg, Elem, InvFault};
-use ff_poly::Plane;
+use ff_poly::{Plane, Poly};
 use std::alloc::Global;
 use std::sync::ledger::Ledger;
 
@@ -65,8 +65,7 @@ fn may_satisfy<K: FiniteField<E = u32>>(
         IfOk result (λ r. Satisfies L f.now g pair.now → IsTrue r) }
 {
     let m = modulus(alloc, &alg2.k, seed_of(f, &alg2.f, pair, pair))?;
-    let at = prepare(alloc, alg2, &m, pair, f.rows().len())?;
-    vanishes(alloc, alg2, &m, &at, f.rows())
+    may_satisfy_modulo(alloc, alg2, &m, f, pair)
 }
 
 /// Whether a pair of E(g), g being the equation of `alg2`, satisfies f: `f(X, Y) = 0`.
@@ -87,8 +86,30 @@ pub fn satisfies<K: FiniteField<E = u32>>(
     if !possible {
         return Ok(false);
     }
-    let at = power_list(alloc, alg2, &pair.x, plane_count(f))?;
-    is_zero_at(alloc, alg2, &at, f, pair)
+    is_zero(alloc, alg2, f, pair)
+}
+
+// Whether the pairs may be inverse, by tests modulo m.
+fn may_be_inverse_modulo<K: FiniteField<E = u32>>(
+    alloc: Global,
+    alg1: &Alg<K>,
+    alg2: &Alg<K>,
+    m: &Poly,
+    pair: &Pair,
+    back: &Pair,
+) -> Result<bool, NoMemory>
+    requires field { alg1.now.k ≡ alg2.now.k }
+    requires m { IsModulus (K.elements alg2.now.k) m.now }
+    requires pair { IsPair (K.lawful alg2.now.k) alg2.now.f pair.now }
+    requires back { IsPair (K.lawful alg1.now.k) alg1.now.f back.now }
+    ensures { let L = K.lawful alg2.now.k in let f = alg1.now.f in let g = alg2.now.f in
+        IfOk result (λ r. IsInversePair L f g pair.now back.now → IsTrue r) }
+{
+    let possible = may_invert(alloc, alg2, m, &alg1.f, pair, back)?;
+    if !possible {
+        return Ok(false);
+    }
+    may_invert(alloc, alg1, m, &alg2.f, back, pair)
 }
 
 // Whether the pairs may be inverse, by tests modulo a polynomial in x.
@@ -106,11 +127,7 @@ fn may_be_inverse<K: FiniteField<E = u32>>(
         IfOk result (λ r. IsInversePair L f g pair.now back.now → IsTrue r) }
 {
     let m = modulus(alloc, &alg2.k, seed_of(&alg1.f, &alg2.f, pair, back))?;
-    let possible = may_invert(alloc, alg2, &m, &alg1.f, pair, back)?;
-    if !possible {
-        return Ok(false);
-    }
-    may_invert(alloc, alg1, &m, &alg2.f, back, pair)
+    may_be_inverse_modulo(alloc, alg1, alg2, &m, pair, back)
 }
 
 // Whether the pairs are inverse, by exact values.

@@ -1,6 +1,7 @@
 // A pair (X, Y) ready to be substituted: the products of X with the powers of y, and the powers of
 // Y, each list with one factor, modulo m.
-ghost use Rattle.std.specs.Prelude.{◌≡◌, ◌+◌, ℕ, length, IfOk, [], slice_index_or as get_or};
+ghost use Rattle.std.specs.Prelude.{◌≡◌, ◌+◌, ℕ, List, length, IfOk, []};
+ghost use Rattle.std.specs.Prelude.{slice_index_or as get_or};
 ghost use Rattle.ff_theory.specs.Ring.{power};
 ghost use Rattle.ff_theory.specs.Values.{poly_of, IsPoly, plane_of, IsPlane, planes_over};
 ghost use Rattle.ff_theory.specs.Planes.{row_of};
@@ -12,6 +13,8 @@ ghost use Rattle.ff_theory.specs.Values.{ArePolys};
 ghost use Rattle.ff_subst.specs.Columns.{plane_combination};
 ghost use Rattle.ff_subst.specs.Residues.{IsReduced, AreReduced, IsResidue, AreResidues};
 ghost use Rattle.ff_subst.specs.Powers.{AreMultiples, IsMatrix, IsSubstitution, IsReducedPair};
+ghost use Rattle.ff_subst.specs.Powers.{AreReducedMultiples, AreNextMultiples};
+ghost use Rattle.ff_subst.specs.Powers.{IsPowerResidues, ArePowerResidues};
 
 use crate::modulo::{product, reduce};
 use crate::residue::{Residue, ResidueList, append, empty, one, residue_of};
@@ -100,6 +103,53 @@ pub fn apply<K: FiniteField<E = u32>>(
     Ok(Residue { factor, plane })
 }
 
+// Products of an element with the powers of another one from 0 on, and the next product.
+#[derive(Drop)]
+struct Multiples {
+    list: ResidueList,
+    next: Residue,
+}
+
+// No products, and the first one as the next.
+fn first_multiple<K: FiniteField<E = u32>>(
+    alloc: Global,
+    alg: &Alg<K>,
+    first: &Residue,
+) -> Result<Multiples, NoMemory>
+    requires { IsReduced (K.elements alg.now.k) first.now }
+    ensures reduced { IfOk result (AreReducedMultiples (K.elements alg.now.k)) }
+    ensures count { IfOk result (λ r. length r.list.planes ≡ 0) }
+    ensures multiples { let L = K.lawful alg.now.k in let f = alg.now.f in
+        IfOk result (λ r. (m : List ℕ) (u v : (algebra_in L f).carrier) →
+        IsResidue L f m u first.now → AreNextMultiples L f m u v r) }
+{
+    let list = empty(alloc, alg)?;
+    let next = first.copy(alloc)?;
+    Ok(Multiples { list, next })
+}
+
+// One product more, the other element being given by its matrix.
+fn more_multiples<K: FiniteField<E = u32>>(
+    alloc: Global,
+    alg: &Alg<K>,
+    m: &Poly,
+    by: &ResidueList,
+    at: Multiples,
+) -> Result<Multiples, NoMemory>
+    requires m { IsModulus (K.elements alg.now.k) m.now }
+    requires by { AreReduced (K.elements alg.now.k) by.now }
+    requires at { AreReducedMultiples (K.elements alg.now.k) at }
+    ensures reduced { IfOk result (AreReducedMultiples (K.elements alg.now.k)) }
+    ensures count { IfOk result (λ r. length r.list.planes ≡ length at.list.planes + 1) }
+    ensures multiples { let L = K.lawful alg.now.k in let f = alg.now.f in
+        IfOk result (λ r. (u v : (algebra_in L f).carrier) → IsMatrix L f m.now v by.now →
+        AreNextMultiples L f m.now u v at → AreNextMultiples L f m.now u v r) }
+{
+    let list = append(alloc, alg, m, &at.list, &at.next)?;
+    let next = apply(alloc, alg, m, by, &at.next)?;
+    Ok(Multiples { list, next })
+}
+
 // An element times the powers from 0 on, `count` of them, of another one that is given by its
 // matrix.
 fn powers<K: FiniteField<E = u32>>(
@@ -120,13 +170,11 @@ fn powers<K: FiniteField<E = u32>>(
         IfOk result (λ r. (u v : A.carrier) → IsResidue L f m.now u first.now →
         IsMatrix L f m.now v by.now → AreMultiples L f m.now u v r) }
 {
-    let mut next = first.copy(alloc)?;
-    let mut list = empty(alloc, alg)?;
+    let mut at = first_multiple(alloc, alg, first)?;
     for _i in 0..count {
-        list = append(alloc, alg, m, &list, &next)?;
-        next = apply(alloc, alg, m, by, &next)?;
+        at = more_multiples(alloc, alg, m, by, at)?;
     }
-    Ok(list)
+    Ok(at.list)
 }
 
 // The list with the residue of one element more.
@@ -151,6 +199,53 @@ fn append_element<K: FiniteField<E = u32>>(
     append(alloc, alg, m, list, &last)
 }
 
+// Residues of the powers of an element from 1 on, and the next power itself.
+#[derive(Drop)]
+struct PowerResidues {
+    list: ResidueList,
+    next: Elem,
+}
+
+// No residues, and the element as the next power.
+fn first_power<K: FiniteField<E = u32>>(
+    alloc: Global,
+    alg: &Alg<K>,
+    e: &Elem,
+) -> Result<PowerResidues, NoMemory>
+    requires { IsElem (K.lawful alg.now.k) alg.now.f e.now }
+    ensures reduced { let L = K.lawful alg.now.k in IfOk result (IsPowerResidues L alg.now.f) }
+    ensures count { IfOk result (λ r. length r.list.planes ≡ 0) }
+    ensures powers { let L = K.lawful alg.now.k in let f = alg.now.f in
+        let u = elem_of L f e.now in
+        IfOk result (λ r. (m : List ℕ) → ArePowerResidues L f m u r) }
+{
+    let list = empty(alloc, alg)?;
+    let next = e.copy(alloc)?;
+    Ok(PowerResidues { list, next })
+}
+
+// One power more.
+fn more_powers<K: FiniteField<E = u32>>(
+    alloc: Global,
+    alg: &Alg<K>,
+    m: &Poly,
+    e: &Elem,
+    at: PowerResidues,
+) -> Result<PowerResidues, NoMemory>
+    requires m { IsModulus (K.elements alg.now.k) m.now }
+    requires e { IsElem (K.lawful alg.now.k) alg.now.f e.now }
+    requires at { IsPowerResidues (K.lawful alg.now.k) alg.now.f at }
+    ensures reduced { let L = K.lawful alg.now.k in IfOk result (IsPowerResidues L alg.now.f) }
+    ensures count { IfOk result (λ r. length r.list.planes ≡ length at.list.planes + 1) }
+    ensures powers { let L = K.lawful alg.now.k in let f = alg.now.f in
+        let u = elem_of L f e.now in IfOk result (λ r.
+        ArePowerResidues L f m.now u at → ArePowerResidues L f m.now u r) }
+{
+    let list = append_element(alloc, alg, m, &at.list, &at.next)?;
+    let next = alg.mul(alloc, e, &at.next)?;
+    Ok(PowerResidues { list, next })
+}
+
 // The powers from 1 on, `count` of them, of an element.
 fn powers_of<K: FiniteField<E = u32>>(
     alloc: Global,
@@ -166,13 +261,11 @@ fn powers_of<K: FiniteField<E = u32>>(
     ensures powers { let L = K.lawful alg.now.k in let f = alg.now.f in
         let u = elem_of L f e.now in IfOk result (AreMultiples L f m.now u u) }
 {
-    let mut next = e.copy(alloc)?;
-    let mut list = empty(alloc, alg)?;
+    let mut at = first_power(alloc, alg, e)?;
     for _i in 0..count {
-        list = append_element(alloc, alg, m, &list, &next)?;
-        next = alg.mul(alloc, e, &next)?;
+        at = more_powers(alloc, alg, m, e, at)?;
     }
-    Ok(list)
+    Ok(at.list)
 }
 
 // The matrix of y: the powers of y from 1 on, as many as the y-degree of the equation.
@@ -243,6 +336,31 @@ pub struct Substitution {
     pub y: ResidueList,
 }
 
+// The pair with its powers of Y from 0 on, `count` of them, from the matrix of y.
+fn prepare_by<K: FiniteField<E = u32>>(
+    alloc: Global,
+    alg: &Alg<K>,
+    m: &Poly,
+    by_y: ResidueList,
+    pair: &Pair,
+    count: usize,
+) -> Result<Substitution, NoMemory>
+    requires m { IsModulus (K.elements alg.now.k) m.now }
+    requires by_y { AreReduced (K.elements alg.now.k) by_y }
+    requires matrix { let L = K.lawful alg.now.k in let f = alg.now.f in
+        IsMatrix L f m.now (y_in L f) by_y }
+    requires pair { IsPair (K.lawful alg.now.k) alg.now.f pair.now }
+    ensures reduced { IfOk result (IsReducedPair (K.elements alg.now.k)) }
+    ensures count { IfOk result (λ r. length r.y.planes ≡ count) }
+    ensures pair { let L = K.lawful alg.now.k in let f = alg.now.f in
+        IfOk result (IsSubstitution L f m.now
+        (elem_of L f pair.now.x) (elem_of L f pair.now.y)) }
+{
+    let x = matrix(alloc, alg, m, &by_y, &pair.x)?;
+    let y = powers_by(alloc, alg, m, &by_y, &pair.y, count)?;
+    Ok(Substitution { by_y, x, y })
+}
+
 // The pair with its powers of Y from 0 on, `count` of them.
 pub fn prepare<K: FiniteField<E = u32>>(
     alloc: Global,
@@ -260,7 +378,5 @@ pub fn prepare<K: FiniteField<E = u32>>(
         (elem_of L f pair.now.x) (elem_of L f pair.now.y)) }
 {
     let by_y = matrix_of_y(alloc, alg, m)?;
-    let x = matrix(alloc, alg, m, &by_y, &pair.x)?;
-    let y = powers_by(alloc, alg, m, &by_y, &pair.y, count)?;
-    Ok(Substitution { by_y, x, y })
+    prepare_by(alloc, alg, m, by_y, pair, count)
 }

@@ -3,15 +3,16 @@ ghost use Rattle.std.specs.Prelude.{◌≡◌, ◌≤◌, ◌+◌, length, IfOk,
 ghost use Rattle.ff_theory.specs.Lawful.{lawful_field};
 ghost use Rattle.ff_theory.specs.Values.{poly_of, IsPoly, plane_of, IsPlane};
 ghost use Rattle.ff_elem.specs.declared.elem.Elem.{Elem};
-ghost use Rattle.ff_elem.specs.Elem.{algebra_in, elem_of, y_in, IsElem};
+ghost use Rattle.ff_elem.specs.Elem.{algebra_in, elem_of, x_in, y_in, IsElem};
 ghost use Rattle.ff_data.specs.declared.pair.Pair.{Pair};
-ghost use Rattle.ff_data.specs.Pairs.{IsPair, Undoes};
+ghost use Rattle.ff_data.specs.Pairs.{IsPair, Satisfies, Undoes};
 ghost use Rattle.ff_data.specs.Substitution.{plane_at_pair};
 ghost use Rattle.ff_subst.specs.Congruence.{IsModulus};
 ghost use Rattle.ff_theory.specs.Values.{ArePolys};
 ghost use Rattle.ff_subst.specs.Residues.{IsReduced, IsResidue};
 ghost use Rattle.ff_subst.specs.Powers.{IsMatrix, IsSubstitution, IsReducedPair};
-ghost use Rattle.ff_subst.specs.Inverse.{IsQuotientAt, IsSmallPair, IsOneSided};
+ghost use Rattle.ff_subst.specs.Inverse.{IsQuotientAt, IsSmallPart, IsSmallPair, IsOneSided};
+ghost use Rattle.ff_subst.specs.Inverse.{polynomial_at};
 
 use crate::evaluation::evaluate;
 use crate::modulo::divides;
@@ -45,7 +46,7 @@ fn agree<K: FiniteField<E = u32>>(
 }
 
 // Whether the polynomial with these rows may be 0 at the pair.
-pub fn vanishes<K: FiniteField<E = u32>>(
+fn vanishes<K: FiniteField<E = u32>>(
     alloc: Global,
     alg: &Alg<K>,
     m: &Poly,
@@ -91,6 +92,57 @@ fn multiply<K: FiniteField<E = u32>>(
     apply(alloc, alg, m, &by, r)
 }
 
+// The product of an element and a polynomial in x at the pair.
+fn multiply_value<K: FiniteField<E = u32>>(
+    alloc: Global,
+    alg: &Alg<K>,
+    m: &Poly,
+    at: &Substitution,
+    v: &Elem,
+    p: &Poly,
+) -> Result<Residue, NoMemory>
+    requires m { IsModulus (K.elements alg.now.k) m.now }
+    requires at { IsReducedPair (K.elements alg.now.k) at.now }
+    requires matrix { let L = K.lawful alg.now.k in let f = alg.now.f in
+        IsMatrix L f m.now (y_in L f) at.now.by_y }
+    requires v { IsElem (K.lawful alg.now.k) alg.now.f v.now }
+    requires p { IsPoly (K.elements alg.now.k) p.now }
+    requires some { 1 ≤ length at.now.y.planes }
+    ensures reduced { IfOk result (IsReduced (K.elements alg.now.k)) }
+    ensures residue { let L = K.lawful alg.now.k in let f = alg.now.f in
+        let A = algebra_in L f in
+        IfOk result (λ r. (X Y : A.carrier) → IsSubstitution L f m.now X Y at.now →
+        IsResidue L f m.now (A.mul (elem_of L f v.now) (polynomial_at L f X p.now)) r) }
+{
+    let value = evaluate(alloc, alg, m, at, slice::from_ref(p))?;
+    multiply(alloc, alg, m, at, v, &value)
+}
+
+// Whether a residue may be that of the polynomial with these rows at the pair.
+fn may_equal<K: FiniteField<E = u32>>(
+    alloc: Global,
+    alg: &Alg<K>,
+    m: &Poly,
+    at: &Substitution,
+    r: &Residue,
+    rows: &[Poly],
+) -> Result<bool, NoMemory>
+    requires m { IsModulus (K.elements alg.now.k) m.now }
+    requires at { IsReducedPair (K.elements alg.now.k) at.now }
+    requires r { IsReduced (K.elements alg.now.k) r.now }
+    requires rows { ArePolys (K.elements alg.now.k) rows.now }
+    requires enough { length rows.now ≤ length at.now.y.planes }
+    ensures { let F = K.elements alg.now.k in let L = K.lawful alg.now.k in
+        let f = alg.now.f in
+        IfOk result (λ b. (X Y : (algebra_in L f).carrier) → IsSubstitution L f m.now X Y at.now →
+        IsResidue L f m.now
+        (plane_at_pair (lawful_field L) (plane_of F f) X Y (plane_of F rows.now)) r.now →
+        IsTrue b) }
+{
+    let value = evaluate(alloc, alg, m, at, rows)?;
+    agree(alloc, alg, m, r, &value)
+}
+
 // Whether the numerator of s at the pair may be v times its denominator there.
 fn takes<K: FiniteField<E = u32>>(
     alloc: Global,
@@ -104,19 +156,56 @@ fn takes<K: FiniteField<E = u32>>(
     requires at { IsReducedPair (K.elements alg.now.k) at.now }
     requires matrix { let L = K.lawful alg.now.k in let f = alg.now.f in
         IsMatrix L f m.now (y_in L f) at.now.by_y }
-    requires den { IsPoly (K.elements alg.now.k) s.now.den }
-    requires num { ArePolys (K.elements alg.now.k) s.now.num }
-    requires enough { length s.now.num ≤ length at.now.y.planes }
-    requires some { 1 ≤ length at.now.y.planes }
+    requires s { IsSmallPart (K.elements alg.now.k) (length at.now.y.planes) s.now }
     requires v { IsElem (K.lawful alg.now.k) alg.now.f v.now }
     ensures { let L = K.lawful alg.now.k in let f = alg.now.f in
         IfOk result (λ r. (X Y : (algebra_in L f).carrier) → IsSubstitution L f m.now X Y at.now →
         IsQuotientAt L f s.now X Y (elem_of L f v.now) → IsTrue r) }
 {
-    let den = evaluate(alloc, alg, m, at, slice::from_ref(&s.den))?;
-    let product = multiply(alloc, alg, m, at, v, &den)?;
-    let num = evaluate(alloc, alg, m, at, s.num.rows())?;
-    agree(alloc, alg, m, &product, &num)
+    let product = multiply_value(alloc, alg, m, at, v, &s.den)?;
+    may_equal(alloc, alg, m, at, &product, s.num.rows())
+}
+
+// Whether the numerator of s at the pair may be x times its denominator there.
+fn takes_x<K: FiniteField<E = u32>>(
+    alloc: Global,
+    alg: &Alg<K>,
+    m: &Poly,
+    at: &Substitution,
+    s: &Elem,
+) -> Result<bool, NoMemory>
+    requires m { IsModulus (K.elements alg.now.k) m.now }
+    requires at { IsReducedPair (K.elements alg.now.k) at.now }
+    requires matrix { let L = K.lawful alg.now.k in let f = alg.now.f in
+        IsMatrix L f m.now (y_in L f) at.now.by_y }
+    requires s { IsSmallPart (K.elements alg.now.k) (length at.now.y.planes) s.now }
+    ensures { let L = K.lawful alg.now.k in let f = alg.now.f in
+        IfOk result (λ r. (X Y : (algebra_in L f).carrier) → IsSubstitution L f m.now X Y at.now →
+        IsQuotientAt L f s.now X Y (x_in L f) → IsTrue r) }
+{
+    let x = alg.x(alloc)?;
+    takes(alloc, alg, m, at, s, &x)
+}
+
+// Whether the numerator of s at the pair may be y times its denominator there.
+fn takes_y<K: FiniteField<E = u32>>(
+    alloc: Global,
+    alg: &Alg<K>,
+    m: &Poly,
+    at: &Substitution,
+    s: &Elem,
+) -> Result<bool, NoMemory>
+    requires m { IsModulus (K.elements alg.now.k) m.now }
+    requires at { IsReducedPair (K.elements alg.now.k) at.now }
+    requires matrix { let L = K.lawful alg.now.k in let f = alg.now.f in
+        IsMatrix L f m.now (y_in L f) at.now.by_y }
+    requires s { IsSmallPart (K.elements alg.now.k) (length at.now.y.planes) s.now }
+    ensures { let L = K.lawful alg.now.k in let f = alg.now.f in
+        IfOk result (λ r. (X Y : (algebra_in L f).carrier) → IsSubstitution L f m.now X Y at.now →
+        IsQuotientAt L f s.now X Y (y_in L f) → IsTrue r) }
+{
+    let y = alg.y(alloc)?;
+    takes(alloc, alg, m, at, s, &y)
 }
 
 // Whether `back` may give x and y at the pair.
@@ -137,13 +226,11 @@ fn gives_variables<K: FiniteField<E = u32>>(
         IsSubstitution L f m.now (elem_of L f pair.x) (elem_of L f pair.y) at.now →
         Undoes L f back.now pair → IsTrue r) }
 {
-    let x = alg.x(alloc)?;
-    let takes_x = takes(alloc, alg, m, at, &back.x, &x)?;
-    if !takes_x {
+    let possible = takes_x(alloc, alg, m, at, &back.x)?;
+    if !possible {
         return Ok(false);
     }
-    let y = alg.y(alloc)?;
-    takes(alloc, alg, m, at, &back.y, &y)
+    takes_y(alloc, alg, m, at, &back.y)
 }
 
 // Whether f may be 0 at a pair that is ready, and `back` may give x and y at it.
@@ -192,4 +279,22 @@ pub fn may_invert<K: FiniteField<E = u32>>(
 {
     let at = prepare(alloc, alg, m, pair, f.rows().len())?;
     may_invert_at(alloc, alg, m, &at, f, back)
+}
+
+// Whether the pair may satisfy f.
+pub fn may_satisfy_modulo<K: FiniteField<E = u32>>(
+    alloc: Global,
+    alg: &Alg<K>,
+    m: &Poly,
+    f: &Plane,
+    pair: &Pair,
+) -> Result<bool, NoMemory>
+    requires m { IsModulus (K.elements alg.now.k) m.now }
+    requires f { IsPlane (K.elements alg.now.k) f.now }
+    requires pair { IsPair (K.lawful alg.now.k) alg.now.f pair.now }
+    ensures { let L = K.lawful alg.now.k in let g = alg.now.f in
+        IfOk result (λ r. Satisfies L f.now g pair.now → IsTrue r) }
+{
+    let at = prepare(alloc, alg, m, pair, f.rows().len())?;
+    vanishes(alloc, alg, m, &at, f.rows())
 }

@@ -3,14 +3,15 @@ ghost use Rattle.std.specs.Prelude.{◌≡◌, ◌+◌, ◌↔◌, length, IfOk,
 ghost use Rattle.ff_theory.specs.Ring.{IsElement};
 ghost use Rattle.ff_theory.specs.Lawful.{lawful_field};
 ghost use Rattle.ff_theory.specs.Values.{poly_of, IsPoly, plane_of, IsPlane};
-ghost use Rattle.ff_elem.specs.Elem.{algebra_in, elem_of, poly_in, IsElem};
+ghost use Rattle.ff_elem.specs.Elem.{algebra_in, elem_of, x_in, y_in, IsElem, ElemIs};
 ghost use Rattle.ff_data.specs.Pairs.{IsPair, Satisfies, ValueIs, Undoes};
-ghost use Rattle.ff_data.specs.Substitution.{poly_at, plane_at_pair};
+ghost use Rattle.ff_data.specs.Substitution.{plane_at_pair};
 ghost use Rattle.ff_theory.specs.Values.{ArePolys};
-ghost use Rattle.ff_subst.specs.Inverse.{HasInverse, IsProductAt, ArePairPolys, IsOneSided};
+ghost use Rattle.ff_subst.specs.Inverse.{HasInverse, IsProductAt, ArePartsPolys, ArePairPolys};
+ghost use Rattle.ff_subst.specs.Inverse.{IsOneSided, polynomial_at};
 ghost use Rattle.ff_subst.specs.Cleared.{ArePowers};
 
-use crate::blocks::{PowerList, pair_count, power_list, value_of_poly};
+use crate::blocks::{PowerList, pair_count, plane_count, power_list, value_of_poly};
 use ff_alg::{FiniteField, NoMemory};
 use ff_data::Pair;
 use ff_elem::{Alg, Elem, InvFault};
@@ -38,6 +39,30 @@ fn next<K: FiniteField<E = u32>>(
     alg.add(alloc, next, &product)
 }
 
+// One step of Horner's rule: the value times Y, and a row at X.
+fn next_row<K: FiniteField<E = u32>>(
+    alloc: Global,
+    alg: &Alg<K>,
+    at: &PowerList,
+    pair: &Pair,
+    value: &Elem,
+    row: &Poly,
+) -> Result<Elem, NoMemory>
+    requires at { let L = K.lawful alg.now.k in let f = alg.now.f in
+        ArePowers L f (elem_of L f pair.now.x) at.now }
+    requires y { IsElem (K.lawful alg.now.k) alg.now.f pair.now.y }
+    requires value { IsElem (K.lawful alg.now.k) alg.now.f value.now }
+    requires row { IsPoly (K.elements alg.now.k) row.now }
+    ensures element { let L = K.lawful alg.now.k in IfOk result (IsElem L alg.now.f) }
+    ensures value { let L = K.lawful alg.now.k in let f = alg.now.f in let A = algebra_in L f in
+        IfOk result (λ r. elem_of L f r ≡ A.add
+        (polynomial_at L f (elem_of L f pair.now.x) row.now)
+        (A.mul (elem_of L f pair.now.y) (elem_of L f value.now))) }
+{
+    let row = value_of_poly(alloc, alg, at, row)?;
+    next(alloc, alg, value, &pair.y, &row)
+}
+
 // The bivariate polynomial with these rows at the pair.
 pub fn value_of_rows<K: FiniteField<E = u32>>(
     alloc: Global,
@@ -60,14 +85,13 @@ pub fn value_of_rows<K: FiniteField<E = u32>>(
     let mut j = rows.len();
     while j > 0 {
         j -= 1;
-        let row = value_of_poly(alloc, alg, at, &rows[j])?;
-        value = next(alloc, alg, &value, &pair.y, &row)?;
+        value = next_row(alloc, alg, at, pair, &value, &rows[j])?;
     }
     Ok(value)
 }
 
 // Whether an element has an inverse.
-pub fn has_inverse<K: FiniteField<E = u32>>(
+fn has_inverse<K: FiniteField<E = u32>>(
     alloc: Global,
     alg: &Alg<K>,
     a: &Elem,
@@ -108,8 +132,35 @@ fn is_multiple<K: FiniteField<E = u32>>(
     Ok(alg.same(&product, &num))
 }
 
+// Whether s(X, Y) is v, where the denominator of s at X is `den`.
+fn takes_over<K: FiniteField<E = u32>>(
+    alloc: Global,
+    alg: &Alg<K>,
+    at: &PowerList,
+    s: &Elem,
+    pair: &Pair,
+    v: &Elem,
+    den: &Elem,
+) -> Result<bool, NoMemory>
+    requires at { let L = K.lawful alg.now.k in let f = alg.now.f in
+        ArePowers L f (elem_of L f pair.now.x) at.now }
+    requires pair { IsPair (K.lawful alg.now.k) alg.now.f pair.now }
+    requires num { ArePolys (K.elements alg.now.k) s.now.num }
+    requires v { IsElem (K.lawful alg.now.k) alg.now.f v.now }
+    requires den { let L = K.lawful alg.now.k in let f = alg.now.f in
+        ElemIs L f (polynomial_at L f (elem_of L f pair.now.x) s.now.den) den.now }
+    ensures { let L = K.lawful alg.now.k in let f = alg.now.f in
+        IfOk result (λ r. IsTrue r ↔ ValueIs L f s.now pair.now (elem_of L f v.now)) }
+{
+    let equal = is_multiple(alloc, alg, at, s, pair, v, den)?;
+    if !equal {
+        return Ok(false);
+    }
+    has_inverse(alloc, alg, den)
+}
+
 // Whether s(X, Y) is v.
-pub fn takes<K: FiniteField<E = u32>>(
+fn takes<K: FiniteField<E = u32>>(
     alloc: Global,
     alg: &Alg<K>,
     at: &PowerList,
@@ -127,11 +178,45 @@ pub fn takes<K: FiniteField<E = u32>>(
         IfOk result (λ r. IsTrue r ↔ ValueIs L f s.now pair.now (elem_of L f v.now)) }
 {
     let den = value_of_poly(alloc, alg, at, &s.den)?;
-    let equal = is_multiple(alloc, alg, at, s, pair, v, &den)?;
-    if !equal {
-        return Ok(false);
-    }
-    has_inverse(alloc, alg, &den)
+    takes_over(alloc, alg, at, s, pair, v, &den)
+}
+
+// Whether s(X, Y) is x.
+fn takes_x<K: FiniteField<E = u32>>(
+    alloc: Global,
+    alg: &Alg<K>,
+    at: &PowerList,
+    s: &Elem,
+    pair: &Pair,
+) -> Result<bool, NoMemory>
+    requires at { let L = K.lawful alg.now.k in let f = alg.now.f in
+        ArePowers L f (elem_of L f pair.now.x) at.now }
+    requires pair { IsPair (K.lawful alg.now.k) alg.now.f pair.now }
+    requires s { ArePartsPolys (K.elements alg.now.k) s.now }
+    ensures { let L = K.lawful alg.now.k in let f = alg.now.f in
+        IfOk result (λ r. IsTrue r ↔ ValueIs L f s.now pair.now (x_in L f)) }
+{
+    let x = alg.x(alloc)?;
+    takes(alloc, alg, at, s, pair, &x)
+}
+
+// Whether s(X, Y) is y.
+fn takes_y<K: FiniteField<E = u32>>(
+    alloc: Global,
+    alg: &Alg<K>,
+    at: &PowerList,
+    s: &Elem,
+    pair: &Pair,
+) -> Result<bool, NoMemory>
+    requires at { let L = K.lawful alg.now.k in let f = alg.now.f in
+        ArePowers L f (elem_of L f pair.now.x) at.now }
+    requires pair { IsPair (K.lawful alg.now.k) alg.now.f pair.now }
+    requires s { ArePartsPolys (K.elements alg.now.k) s.now }
+    ensures { let L = K.lawful alg.now.k in let f = alg.now.f in
+        IfOk result (λ r. IsTrue r ↔ ValueIs L f s.now pair.now (y_in L f)) }
+{
+    let y = alg.y(alloc)?;
+    takes(alloc, alg, at, s, pair, &y)
 }
 
 // Whether (U, V) undoes (X, Y): X(U, V) is x and Y(U, V) is y.
@@ -149,17 +234,15 @@ fn undoes<K: FiniteField<E = u32>>(
     ensures { let L = K.lawful alg.now.k in
         IfOk result (λ r. IsTrue r ↔ Undoes L alg.now.f pair.now back.now) }
 {
-    let x = alg.x(alloc)?;
-    let takes_x = takes(alloc, alg, at, &pair.x, back, &x)?;
-    if !takes_x {
+    let undone = takes_x(alloc, alg, at, &pair.x, back)?;
+    if !undone {
         return Ok(false);
     }
-    let y = alg.y(alloc)?;
-    takes(alloc, alg, at, &pair.y, back, &y)
+    takes_y(alloc, alg, at, &pair.y, back)
 }
 
 // Whether the pair satisfies f.
-pub fn is_zero_at<K: FiniteField<E = u32>>(
+fn is_zero_at<K: FiniteField<E = u32>>(
     alloc: Global,
     alg: &Alg<K>,
     at: &PowerList,
@@ -176,6 +259,22 @@ pub fn is_zero_at<K: FiniteField<E = u32>>(
     let value = value_of_rows(alloc, alg, at, pair, f.rows())?;
     let zero = alg.zero(alloc)?;
     Ok(alg.same(&value, &zero))
+}
+
+// The like with no powers at hand.
+pub fn is_zero<K: FiniteField<E = u32>>(
+    alloc: Global,
+    alg: &Alg<K>,
+    f: &Plane,
+    pair: &Pair,
+) -> Result<bool, NoMemory>
+    requires f { IsPlane (K.elements alg.now.k) f.now }
+    requires pair { IsPair (K.lawful alg.now.k) alg.now.f pair.now }
+    ensures { let L = K.lawful alg.now.k in
+        IfOk result (λ r. IsTrue r ↔ Satisfies L f.now alg.now.f pair.now) }
+{
+    let at = power_list(alloc, alg, &pair.x, plane_count(f))?;
+    is_zero_at(alloc, alg, &at, f, pair)
 }
 
 // Whether the pair, the powers of X at hand, satisfies f and `back` gives x and y at it.

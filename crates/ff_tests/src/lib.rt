@@ -3,6 +3,10 @@
 #![tactic(auto)]
 
 #[cfg(test)]
+mod constants;
+#[cfg(test)]
+mod make;
+#[cfg(test)]
 mod order;
 pub mod pairs;
 #[cfg(test)]

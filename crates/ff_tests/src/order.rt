@@ -41,6 +41,12 @@ fn is_line(alloc: Global, which: u8, want: &[u8]) -> Result<bool, Fail>
     Ok(text.as_slice() == want)
 }
 
+/// Whether the line for a first field without a pole system within the limit is this.
+fn is_limit_line(alloc: Global, want: &[u8]) -> Result<bool, Fail> {
+    let text = print_refusal(alloc, &Refusal::PoleLimit)?;
+    Ok(text.as_slice() == want)
+}
+
 /// Whether the plane of a vector of two rows of three entries has these rows, and the vector back.
 fn has_rows(alloc: Global, k: &Prime, v: &[u64], rows: [&[u64]; 3]) -> Result<bool, Fail>
     requires { length v.now ≡ 6 }
@@ -95,6 +101,7 @@ fn lists_of_an_equation_that_is_not_monic(rt: HostRuntime) -> Result<(), Fail> {
 fn lines_of_refusals(rt: HostRuntime) -> Result<(), Fail> {
     let want = b"premise: equation 1 is inseparable in y\n";
     assert!(rt; is_line(rt.alloc(), 1, want)?);
+    assert!(rt; is_limit_line(rt.alloc(), b"limit: no pole system within 1200\n")?);
     Ok(())
 }
 

@@ -43,6 +43,9 @@ module _ {F : Elements ℕ} (L : Lawful F) (f : List (List ℕ)) where
   abbrev pub IsRefusal : Refusal → Type 0
   IsRefusal (refusal.Inseparable w) = (w ≡ 1) × IsCause L f fault.Inseparable
   IsRefusal (refusal.Reducible w g h) = (w ≡ 1) × IsCause L f (fault.Square g h)
+  IsRefusal (refusal.NoRationalPlace finite infinite) = ⊥
+  IsRefusal refusal.PoleLimit = ⊥
+  IsRefusal (refusal.SmallGenus system) = ⊥
   IsRefusal refusal.NoMemory = ⊥
 
   -- the equation is refused, and this is the line of the refusal

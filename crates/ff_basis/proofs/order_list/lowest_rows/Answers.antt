@@ -6,7 +6,7 @@ use Rattle.ff_theory.specs.Values.{poly_of}
 use Rattle.ff_basis.specs.Blocks.{row_in}
 use Rattle.ff_lin.proofs.InsertRow.{basis_vectors}
 use Rattle.ff_elem.proofs.PolyLemmas.{nonzero-length}
-use Rattle.ff_basis.proofs.ChartLaws.{chart_laws}
+use Rattle.ff_data.proofs.ChartLaws.{chart_laws}
 use Rattle.ff_basis.proofs.Lengths.{ok_four, less_one, lowest_rows_are}
 use Rattle.ff_basis.proofs.order_list.lowest_rows.Goals as goal
 

@@ -5,7 +5,7 @@ use Rattle.ff_theory.proofs.Results.{ok_map}
 use Rattle.ff_lin.proofs.InsertRow.{basis_vectors}
 use Rattle.ff_elem.proofs.PolyLemmas.{nonzero-length}
 use Rattle.ff_data.specs.Orders.{y_degree, InOrder, IsIntegral}
-use Rattle.ff_basis.proofs.ChartLaws.{chart_laws}
+use Rattle.ff_data.proofs.ChartLaws.{chart_laws}
 use Rattle.ff_basis.proofs.Lengths.{ok_three, shorter_is}
 use Rattle.ff_basis.proofs.OneList.{one_list, list_of, list_is}
 use Rattle.ff_basis.proofs.order_list.order_basis.Goals as goal

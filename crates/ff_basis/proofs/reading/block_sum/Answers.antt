@@ -7,7 +7,7 @@ use Rattle.ff_theory.specs.Values.{plane_of}
 use Rattle.ff_theory.specs.Algebra.{value_of}
 use Rattle.ff_elem.specs.Elem.{algebra_in, elem_of}
 use Rattle.ff_basis.specs.Blocks.{block}
-use Rattle.ff_basis.proofs.ChartLaws.{algebra_laws}
+use Rattle.ff_data.proofs.ChartLaws.{algebra_laws}
 use Rattle.ff_basis.proofs.Pieces.{row_room}
 use Rattle.ff_basis.proofs.ReadBack.{partial_step, partial_end}
 use Rattle.ff_basis.proofs.reading.block_sum.Goals as goal

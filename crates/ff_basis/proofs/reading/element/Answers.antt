@@ -6,7 +6,7 @@ use Rattle.ff_elem.specs.Elem.{elem_of}
 use Rattle.ff_elem.proofs.PolyLemmas.{nonzero-length}
 use Rattle.ff_data.specs.Orders.{y_degree}
 use Rattle.ff_basis.specs.Blocks.{sum_of_blocks}
-use Rattle.ff_basis.proofs.ChartLaws.{chart_laws}
+use Rattle.ff_data.proofs.ChartLaws.{chart_laws}
 use Rattle.ff_basis.proofs.Lengths.{len_is, shorter_is}
 use Rattle.ff_basis.proofs.ReadBack.{read_fraction}
 use Rattle.ff_basis.proofs.reading.element.Goals as goal

@@ -5,7 +5,7 @@ use Rattle.ff_theory.proofs.Results.{ok_map}
 use Rattle.ff_charts.proofs.FiniteChart.{at_is}
 use Rattle.ff_elem.specs.Elem.{algebra_in, elem_of}
 use Rattle.ff_basis.specs.Blocks.{IsFactor}
-use Rattle.ff_basis.proofs.ChartLaws.{has}
+use Rattle.ff_data.proofs.ChartLaws.{has}
 use Rattle.ff_basis.proofs.reading.factor.Goals as goal
 
 pub returns-in-Finite-clause-value : goal.returns-in-Finite-clause-value

@@ -2,7 +2,7 @@ use Rattle.std.proofs.Common.{length, sym, ◌∙◌, ap, subst, arith}
 use Rattle.ff_theory.specs.Values.{plane_of, IsPlane}
 use Rattle.ff_charts.specs.Chart.{at_theta}
 use Rattle.ff_data.specs.Orders.{chart_of}
-use Rattle.ff_order.proofs.ChartLaws.{algebra_laws}
+use Rattle.ff_data.proofs.ChartLaws.{algebra_laws}
 use Rattle.ff_order.proofs.TestPlanes.{few_rows, power_more}
 use Rattle.ff_order.proofs.Residues.{equation_positive, equation_monic}
 use Rattle.ff_order.proofs.different.times_power.Goals as goal

@@ -1,6 +1,7 @@
 use Rattle.std.proofs.Common.{◌-◌, length, sym, ap, subst}
 use Rattle.ff_theory.specs.Values.{ArePolys}
-use Rattle.ff_order.proofs.ChartLemmas.{quotients-are, raised-length, ok_three}
+use Rattle.ff_data.proofs.MonicLemmas.{raised-length}
+use Rattle.ff_order.proofs.ChartLemmas.{quotients-are, ok_three}
 use Rattle.ff_order.proofs.infinite.quotients_at_infinity.Goals as goal
 
 pub rows_at_monic-requires : goal.rows_at_monic-requires

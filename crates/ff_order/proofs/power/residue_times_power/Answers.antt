@@ -5,7 +5,7 @@ use Rattle.ff_charts.specs.Chart.{at_theta}
 use Rattle.ff_charts.specs.Lattice.{IsResidue}
 use Rattle.ff_elem.specs.Elem.{algebra_in}
 use Rattle.ff_data.specs.Orders.{chart_of}
-use Rattle.ff_order.proofs.ChartLaws.{algebra_laws}
+use Rattle.ff_data.proofs.ChartLaws.{algebra_laws}
 use Rattle.ff_order.proofs.Products.{power_step}
 use Rattle.ff_order.proofs.power.residue_times_power.Goals as goal
 

@@ -2,7 +2,7 @@ use Rattle.std.proofs.Common.{ℕ, length, refl, sym, ◌∙◌, ap, Vec, Global
 use Rattle.std.proofs.lemmas.List.{length-map}
 use Rattle.ff_theory.proofs.Results.{ok_map}
 use Rattle.ff_lin.proofs.InsertRow.{basis_vectors}
-use Rattle.ff_order.proofs.Combinations.{kept-spans}
+use Rattle.ff_quotients.proofs.KeptVectors.{kept-spans}
 use Rattle.ff_order.proofs.ScaledRows.{turn_is}
 use Rattle.ff_order.proofs.turn.turn.Goals as goal
 

@@ -7,3 +7,12 @@ returns-then-not-possible-clause-inverse g c = (
   λ u. absurd (let t : c.in_ok-possible.possible
       ≡ true = c.in_ok-possible.ensures u in cc),
 )
+
+pub returns-in_err-possible-clause-tests : goal.returns-in_err-possible-clause-tests
+returns-in_err-possible-clause-tests g c = c.tick.ensures
+
+pub returns-then-not-possible-clause-tests : goal.returns-then-not-possible-clause-tests
+returns-then-not-possible-clause-tests g c = c.tick.ensures
+
+pub returns-clause-tests : goal.returns-clause-tests
+returns-clause-tests g c = c.tick.ensures

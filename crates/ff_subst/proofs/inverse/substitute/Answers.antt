@@ -47,3 +47,6 @@ returns-in-Err-ZeroDivisor-clause-none g c =
     no_value F G (poly_of K c.args.s.now.den) X (elem_of L f c.in_ok-den.den)
     (elem_of L f c.in-Err-ZeroDivisor.field-0-0) (c.in_ok-den.ensures.value X c.in_ok-at.ensures)
     divides.product divides.nonzero
+
+pub returns-in-Ok-clause-none : goal.returns-in-Ok-clause-none
+returns-in-Ok-clause-none g c = tt

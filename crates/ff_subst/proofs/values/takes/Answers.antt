@@ -1,68 +1,24 @@
-use Rattle.std.proofs.Common.{IsTrue, ap, subst, sym, true, ◌↔◌, ◌∙◌, ◌≡◌}
-use Rattle.ff_theory.specs.Lawful.{lawful_field}
-use Rattle.ff_theory.specs.Values.{plane_of, poly_of}
-use Rattle.ff_theory.proofs.Results.{ok_map}
-use Rattle.ff_elem.specs.Elem.{algebra_in, elem_of}
-use Rattle.ff_data.specs.Pairs.{ValueIs}
-use Rattle.ff_data.specs.Substitution.{poly_at}
-use Rattle.ff_subst.specs.Inverse.{HasInverse}
-use Rattle.ff_subst.proofs.PairValues.{of-value, value-of}
+use Rattle.ff_elem.specs.Elem.{elem_of}
 use Rattle.ff_subst.proofs.values.takes.Goals as goal
 
 pub value_of_poly-requires : goal.value_of_poly-requires
 value_of_poly-requires g c =
     record { at = c.requires.at.list; p = c.requires.den }
 
-pub is_multiple-requires : goal.is_multiple-requires
-is_multiple-requires g c =
+pub takes_over-requires : goal.takes_over-requires
+takes_over-requires g c =
+    let L = g.K.Ring.lawful c.args.alg.now.k in
+    let X = elem_of L c.args.alg.now.f c.args.pair.now.x in
     record {
       at = c.requires.at;
       pair = c.requires.pair;
       num = c.requires.num;
       v = c.requires.v;
-      den = c.in_ok-den.ensures.element;
+      den = record {
+        element = c.in_ok-den.ensures.element;
+        value = c.in_ok-den.ensures.value X c.requires.at;
+      };
     }
 
-pub returns-then-not-equal : goal.returns-then-not-equal
-returns-then-not-equal g c =
-    let K = g.K.Ring.elements c.args.alg.now.k in
-    let L = g.K.Ring.lawful c.args.alg.now.k in
-    let f = c.args.alg.now.f in
-    let A = algebra_in L f in
-    let s = c.args.s.now in
-    let X = elem_of L f c.args.pair.now.x in
-    let Y = elem_of L f c.args.pair.now.y in
-    let v = elem_of L f c.args.v.now in (
-      λ e. absurd cc,
-      λ h. absurd (let t : c.in_ok-equal.equal ≡ true = c.in_ok-equal.ensures.1
-          (ap (A.mul v) (c.in_ok-den.ensures.value X c.requires.at)
-          ∙ of-value (lawful_field L) (plane_of K f) (poly_of K s.den) (plane_of K s.num) X Y v
-          h) in cc),
-    )
-
 pub returns : goal.returns
-returns g c =
-    let K = g.K.Ring.elements c.args.alg.now.k in
-    let L = g.K.Ring.lawful c.args.alg.now.k in
-    let f = c.args.alg.now.f in
-    let F = lawful_field L in
-    let G = plane_of K f in
-    let A = algebra_in L f in
-    let s = c.args.s.now in
-    let X = elem_of L f c.args.pair.now.x in
-    let Y = elem_of L f c.args.pair.now.y in
-    let v = elem_of L f c.args.v.now in
-    let d : elem_of L f c.in_ok-den.den ≡ poly_at F G X (poly_of K s.den) =
-    c.in_ok-den.ensures.value X c.requires.at in
-    let yes : c.in_ok-equal.equal ≡ true = cc in
-    let equal = ap (A.mul v) (sym d) ∙ c.in_ok-equal.ensures.0 yes in
-    ok_map (λ r. IsTrue r ↔ HasInverse L f (elem_of L f c.in_ok-den.den))
-    (λ r. IsTrue r ↔ ValueIs L f s c.args.pair.now v) c.has_inverse.result
-    (λ r h. (
-      λ t. let i = subst (HasInverse L f) d (h.0 t) in value-of F G
-          (poly_of K s.den) (plane_of K s.num) X Y v
-          (record { inverse = i.inverse; inverts = i.inverts }) equal,
-      λ k. h.1 (subst (HasInverse L f) (sym d)
-          (record { inverse = k.inverse; inverts = k.inverts })),
-    ))
-    c.has_inverse.ensures
+returns g c = c.takes_over.ensures

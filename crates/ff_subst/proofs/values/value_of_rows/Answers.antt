@@ -8,22 +8,16 @@ use Rattle.ff_data.specs.Substitution.{poly_at}
 use Rattle.ff_subst.proofs.HornerLemmas.{horner-next, horner-none, row-entry, rows-whole}
 use Rattle.ff_subst.proofs.values.value_of_rows.Goals as goal
 
-pub value_of_poly-requires : goal.value_of_poly-requires
-value_of_poly-requires g c =
+pub next_row-requires : goal.next_row-requires
+next_row-requires g c =
     let K = g.K.Ring.elements c.args.alg.now.k in
     record {
-      at = c.requires.at.list;
-      p = subst (IsPoly K) (sym c.index-rows-j.is)
+      at = c.requires.at;
+      y = c.requires.pair.y;
+      value = c.loop-j.invariant.element;
+      row = subst (IsPoly K) (sym c.index-rows-j.is)
           (c.requires.rows (c.loop-j.j - 1) c.index-rows-j.result
           (omega (arith, c.loop-j.invariant.below, c.loop-j-test.true)));
-    }
-
-pub next-requires : goal.next-requires
-next-requires g c =
-    record {
-      value = c.loop-j.invariant.element;
-      by = c.requires.pair.y;
-      next = c.in_ok-row.ensures.element;
     }
 
 pub loop-j-init : goal.loop-j-init
@@ -64,7 +58,7 @@ loop-j-preserved g c =
       element = c.in_ok-value-2.ensures.element;
       value = c.in_ok-value-2.ensures.value
           ∙ ap₂ (λ a b. A.add a (A.mul Y b))
-          (c.in_ok-row.ensures.value X c.requires.at ∙ ap (λ p. poly_at F G X (poly_of K p))
+          (ap (λ p. poly_at F G X (poly_of K p))
           (c.index-rows-j.is ∙ get_or_default rows k row [] (omega (arith, old.below, pos)))
           ∙ row-entry K L f X rows k) old.value
           ∙ horner-next K L f Y cs (length rows) j k pos old.below refl;

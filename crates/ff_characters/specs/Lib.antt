@@ -1,0 +1,2 @@
+-- Characters of a finite algebra
+pub mod Characters

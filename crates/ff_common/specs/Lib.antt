@@ -1,0 +1,2 @@
+-- Numerators over one denominator
+pub mod Common

@@ -1,0 +1,2 @@
+-- Odd primes and exponents
+pub mod OddPrimes

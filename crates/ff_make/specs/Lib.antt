@@ -1,0 +1,3 @@
+-- The equations of a number
+pub mod Curve
+pub mod Generator

@@ -1,0 +1,7 @@
+//! The equations that the program forms of a number, two curves that are isomorphic.
+#![tactic(auto)]
+
+mod curve;
+mod generator;
+
+pub use generator::generate;

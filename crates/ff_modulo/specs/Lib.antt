@@ -1,0 +1,2 @@
+-- Combinations of vectors up to a vector of a space
+pub mod Modulo

@@ -1,0 +1,6 @@
+//! Vectors modulo a space: bases and coordinates.
+#![tactic(auto)]
+
+mod bases;
+
+pub use bases::{basis_modulo, coordinates_modulo};

@@ -1,0 +1,2 @@
+-- Values of lists of coefficients
+pub mod ValueLemmas

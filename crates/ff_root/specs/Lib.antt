@@ -1,0 +1,2 @@
+-- States of the search.
+pub mod States
