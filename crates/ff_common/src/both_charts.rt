@@ -71,8 +71,9 @@ fn common_numerators<K: FiniteField<E = u32>>(
     Ok((l, common))
 }
 
-/// The element with the numerator over d whose vector is v.
-fn quotient<K: FiniteField<E = u32>>(
+/// The element with the numerator over d whose vector, with rows of `l` coefficients in powers of
+/// y', is v. `NoMemory` is the only error.
+pub fn quotient<K: FiniteField<E = u32>>(
     alloc: Global,
     alg: &Alg<K>,
     d: &Poly,

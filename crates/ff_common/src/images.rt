@@ -18,8 +18,9 @@ use ff_poly::rows::width;
 use ff_poly::{Plane, Poly};
 use std::alloc::Global;
 
-/// The slope: y'/x^e is integral at infinity for the slope e and for no lower e.
-pub(crate) fn slope_at_infinity<K: FiniteField<E = u32>>(
+/// The slope: y'/x^e is integral at infinity for the slope e and for no lower e. `NoMemory` is the
+/// only error.
+pub fn slope_at_infinity<K: FiniteField<E = u32>>(
     alloc: Global,
     alg: &Alg<K>,
 ) -> Result<u32, NoMemory>
@@ -30,8 +31,8 @@ pub(crate) fn slope_at_infinity<K: FiniteField<E = u32>>(
 }
 
 /// For each row of the plane with the vector v, the quotient of the row times x^(i * e) by `by`,
-/// with i its index and e the slope.
-fn quotient_rows<K: FiniteField<E = u32>>(
+/// with i its index and e the slope. `NoMemory` is the only error.
+pub fn quotient_rows<K: FiniteField<E = u32>>(
     alloc: Global,
     alg: &Alg<K>,
     e: u32,
@@ -107,8 +108,8 @@ fn widest(lists: &[Vec<Poly>], least: usize) -> usize
     h
 }
 
-/// The vector of the reversals up to t^(h - 1) of the rows.
-fn reversed_vector<K: FiniteField<E = u32>>(
+/// The vector of the reversals up to t^(h - 1) of the rows. `NoMemory` is the only error.
+pub fn reversed_vector<K: FiniteField<E = u32>>(
     alloc: Global,
     alg: &Alg<K>,
     rows: &[Poly],

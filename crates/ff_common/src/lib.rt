@@ -7,4 +7,7 @@ mod images;
 mod numerators;
 mod times;
 
-pub use both_charts::common;
+pub use both_charts::{common, quotient};
+pub use images::{quotient_rows, reversed_vector, slope_at_infinity};
+pub use numerators::element;
+pub use times::{power_times_space, times_space, times_vector, times_vectors};

@@ -36,8 +36,8 @@ fn rows_in_y<K: FiniteField<E = u32>>(
     Ok(list)
 }
 
-/// The rows, by powers of y', over a denominator in x, as an element.
-pub(crate) fn element<K: FiniteField<E = u32>>(
+/// The rows, by powers of y', over a denominator in x, as an element. `NoMemory` is the only error.
+pub fn element<K: FiniteField<E = u32>>(
     alloc: Global,
     alg: &Alg<K>,
     rows: &[Poly],

@@ -17,8 +17,8 @@ use ff_poly::Poly;
 use std::alloc::Global;
 
 /// The vector, with rows of h coefficients, of the product of the factor and of the plane with the
-/// vector v, which has rows of m.
-fn times_vector<K: FiniteField<E = u32>>(
+/// vector v, which has rows of m. `NoMemory` is the only error.
+pub fn times_vector<K: FiniteField<E = u32>>(
     alloc: Global,
     alg: &Alg<K>,
     factor: &Poly,
@@ -42,8 +42,9 @@ fn times_vector<K: FiniteField<E = u32>>(
     vector_of_plane(alloc, &alg.k, &product, n, h)
 }
 
-/// The vectors of the products of the factor and of the planes with the vectors.
-fn times_vectors<K: FiniteField<E = u32>>(
+/// The vectors of the products of the factor and of the planes with the vectors. `NoMemory` is the
+/// only error.
+pub fn times_vectors<K: FiniteField<E = u32>>(
     alloc: Global,
     alg: &Alg<K>,
     factor: &Poly,
@@ -70,9 +71,9 @@ fn times_vectors<K: FiniteField<E = u32>>(
     Ok(list)
 }
 
-/// The products of the factor and of the planes of a space with rows of m coefficients, with rows
-/// of h.
-pub(crate) fn times_space<K: FiniteField<E = u32>>(
+/// The space of the products of the factor and of the planes of a space with rows of m
+/// coefficients, with rows of h. `NoMemory` is the only error.
+pub fn times_space<K: FiniteField<E = u32>>(
     alloc: Global,
     alg: &Alg<K>,
     factor: &Poly,
@@ -97,8 +98,9 @@ pub(crate) fn times_space<K: FiniteField<E = u32>>(
     }
 }
 
-/// The residues modulo t^h that are t^(h - m) times those of a space modulo t^m.
-pub(crate) fn power_times_space<K: FiniteField<E = u32>>(
+/// The residues modulo t^h that are t^(h - m) times those of a space modulo t^m. `NoMemory` is the
+/// only error.
+pub fn power_times_space<K: FiniteField<E = u32>>(
     alloc: Global,
     alg: &Alg<K>,
     m: usize,

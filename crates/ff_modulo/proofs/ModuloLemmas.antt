@@ -1,7 +1,7 @@
 -- Combinations of vectors modulo a space: bases that grow, and the relation that has coordinates.
-use Rattle.std.proofs.Common.{◌≡◌, ℕ, zero, suc, ◌+◌, ◌<◌, ◌≤◌, ◌⊎◌, inl, inr, Bool, true, false}
+use Rattle.std.proofs.Common.{◌≡◌, ℕ, zero, suc, ◌+◌, ◌-◌, ◌<◌, ◌≤◌, ◌⊎◌, inl, inr, Bool, true, false}
 use Rattle.std.proofs.Common.{List, [], ◌∷◌, ◌++◌, length, get_or, refl, sym, ◌∙◌, ap, ap₂, subst}
-use Rattle.std.proofs.Common.{arith, All, below_more}
+use Rattle.std.proofs.Common.{arith, All, below_more, Option, Some, None, IfSome, IfNone}
 use Rattle.std.proofs.lemmas.List.Elements.{All-push}
 use Rattle.std.proofs.lemmas.Bool.{cases_lt}
 use Rattle.std.proofs.lemmas.List.{get_or_append_left, get_or_push, length_push, length-map}
@@ -17,7 +17,7 @@ use Rattle.ff_theory.proofs.Span.{span-same, span-zero, span-more, span-one, spa
 use Rattle.ff_lin.specs.Space.{SpaceParts, IsSpaceOf, InSpace, SameSpace, HasExactly, pivot}
 use Rattle.ff_lin.specs.Space.{rows_of}
 use Rattle.ff_modulo.specs.Modulo.{IsCombinationModulo, IsSpannedModulo, IsIndependentModulo}
-use Rattle.ff_modulo.specs.Modulo.{IsRowOf}
+use Rattle.ff_modulo.specs.Modulo.{IsRowOf, IsNegativeTail, IsTailOfOne, BeginsWithZero}
 use Rattle.ff_lin.proofs.Dimension.{before}
 use Rattle.ff_lin.proofs.MeetSum.{cut, cut-below, cut-ends}
 
@@ -26,6 +26,16 @@ abbrev pub with_at : {A : Type 0} → ℕ → (ℕ → A) → A → ℕ → A
 with_at zero c a i = a
 with_at (suc r) c a zero = c zero
 with_at (suc r) c a (suc i) = with_at r (λ j. c (suc j)) a i
+
+-- what holds of an answer that is passed on
+pub some-map : {T : Type 0} (o : Option T) (P Q : T → Type 0) → ((x : T) → P x → Q x) → IfSome o P
+    → IfSome o Q
+some-map None P Q k h = tt
+some-map (Some x) P Q k h = k x h
+
+pub none-map : {T : Type 0} (o : Option T) (P Q : Type 0) → (P → Q) → IfNone o P → IfNone o Q
+none-map None P Q k h = k h
+none-map (Some x) P Q k h = tt
 
 -- all of a list with one more in front
 pub all-cons : {A : Type 0} (P : A → Type 0) (x : A) (xs : List A) → P x → All P xs
@@ -311,9 +321,8 @@ module _ (F : Elements ℕ) (laws : IsCommRing F.ring) (tests : IsTested F.ring)
             let same : length xs ≡ j = omega (arith, q, r, n) in
             (i, (l, get_or_push xs x [] j same ∙ sym e))
 
-    -- the relations of a vector and independent rows: one that begins with 1
-    module _ (rows : List (List ℕ)) (v : List ℕ) (free : IsIndependentModulo F s rows)
-        (spanned : IsSpannedModulo F s rows (vector_of F v)) (R : SpaceParts)
+    -- the relations of a vector and rows
+    module _ (rows : List (List ℕ)) (v : List ℕ) (R : SpaceParts)
         (space : IsSpaceOf F (suc (length rows)) R)
         (exact : HasExactly F R (λ c. InSpace F s (combination_of F (v ∷ rows) c))) where
       front : (c : ℕ → F.carrier) (j : ℕ) → combination_of F (v ∷ rows) c j
@@ -321,44 +330,74 @@ module _ (F : Elements ℕ) (laws : IsCommRing F.ring) (tests : IsTested F.ring)
       front c j = sum-front F.ring laws (length rows) (λ i. F.mul (c i)
           (vectors_of F (v ∷ rows) i j))
 
-      abbrev whole : ℕ → F.carrier
-      whole = before F.one (λ i. F.neg (cut F.ring laws (length rows) spanned.0 i))
+      abbrev whole : (ℕ → F.carrier) → ℕ → F.carrier
+      whole c = before F.one (λ i. F.neg (cut F.ring laws (length rows) c i))
 
-      whole-ends : EndsAt F.ring R.len whole
-      whole-ends zero q = absurd (let e = space.len in omega (arith, q, e))
-      whole-ends (suc i) q = ap F.neg (cut-ends F.ring laws (length rows) spanned.0 i
+      whole-ends : (c : ℕ → F.carrier) → EndsAt F.ring R.len (whole c)
+      whole-ends c zero q = absurd (let e = space.len in omega (arith, q, e))
+      whole-ends c (suc i) q = ap F.neg (cut-ends F.ring laws (length rows) c i
           (let e = space.len in omega (arith, q, e)))
           ∙ ring1 F.ring laws (λ a. neg nil) (λ a. nil) refl F.zero
 
-      whole-in : InSpace F R whole
-      whole-in = (exact whole).1 (
-        whole-ends,
-        in-same s _ _ (λ j. front whole j
+      -- the combination that the vector is gives one that begins with 1
+      pub whole-in : (c : ℕ → F.carrier) → IsCombinationModulo F s rows c (vector_of F v)
+          → InSpace F R (whole c)
+      whole-in c h = (exact (whole c)).1 (
+        whole-ends c,
+        in-same s _ _ (λ j. front (whole c) j
             ∙ ap₂ F.add (ring1 F.ring laws (λ x. unit ⊗ x) (λ x. x) refl (vector_of F v j))
             (sum-ext F.ring laws (length rows) _ _ (λ i l. ap (λ t. F.mul (F.neg t)
-            (vectors_of F rows i j)) (cut-below F.ring laws (length rows) spanned.0 i l)
-            ∙ ring2 F.ring laws (λ c x. neg c ⊗ x) (λ c x. neg unit ⊗ (c ⊗ x)) refl (spanned.0 i)
+            (vectors_of F rows i j)) (cut-below F.ring laws (length rows) c i l)
+            ∙ ring2 F.ring laws (λ c x. neg c ⊗ x) (λ c x. neg unit ⊗ (c ⊗ x)) refl (c i)
             (vectors_of F rows i j)) ∙ sum-mul F.ring laws (length rows) (F.neg F.one)
-            (λ i. F.mul (spanned.0 i) (vectors_of F rows i j))
+            (λ i. F.mul (c i) (vectors_of F rows i j))
             ∙ ring1 F.ring laws (λ x. neg unit ⊗ x) (λ x. neg x) refl
-            (combination_of F rows spanned.0 j))) spanned.1,
+            (combination_of F rows c j))) h,
       )
 
+      -- one that begins with 1 gives a combination
+      pub relation-solves : (b : ℕ → F.carrier) → InSpace F R b → b 0 ≡ F.one
+          → (c : ℕ → F.carrier) → ((i : ℕ) → i < length rows → c i ≡ F.neg (b (suc i)))
+          → IsCombinationModulo F s rows c (vector_of F v)
+      relation-solves b b-in b-first c h = in-same s _ _ (λ j.
+          ap (λ t. F.add (vector_of F v j) (F.neg t)) (sum-ext F.ring laws (length rows) _ _
+          (λ i l. ap (λ t. F.mul t (vectors_of F rows i j)) (h i l)
+          ∙ ring2 F.ring laws (λ c x. neg c ⊗ x) (λ c x. neg unit ⊗ (c ⊗ x)) refl (b (suc i))
+          (vectors_of F rows i j)) ∙ sum-mul F.ring laws (length rows) (F.neg F.one)
+          (λ i. F.mul (b (suc i)) (vectors_of F rows i j)))
+          ∙ ring2 F.ring laws (λ v x. v ⊕ neg (neg unit ⊗ x)) (λ v x. unit ⊗ v ⊕ x) refl
+          (vector_of F v j) (combination_of F rows (λ i. b (suc i)) j)
+          ∙ ap (λ t. F.add (F.mul t (vector_of F v j))
+          (combination_of F rows (λ i. b (suc i)) j)) (sym b-first)
+          ∙ sym (front b j)) ((exact b).0 b-in).1
+
+      -- where none begins with 1 there is no combination
+      pub no-relation : ((b : ℕ → F.carrier) → InSpace F R b → b 0 ≡ F.zero)
+          → ¬ IsSpannedModulo F s rows (vector_of F v)
+      no-relation none h = absurd (field.one_not_zero (none (whole h.0) (whole-in h.0 h.1)))
+
+    -- the relations of a vector and independent rows: one that begins with 1
+    module _ (rows : List (List ℕ)) (v : List ℕ) (free : IsIndependentModulo F s rows)
+        (spanned : IsSpannedModulo F s rows (vector_of F v)) (R : SpaceParts)
+        (space : IsSpaceOf F (suc (length rows)) R)
+        (exact : HasExactly F R (λ c. InSpace F s (combination_of F (v ∷ rows) c))) where
       pub some-relation : 0 < length R.basis
       some-relation = go (cases_lt 0 (length R.basis))
         where
+          in-whole : InSpace F R (whole rows v R space exact spanned.0)
+          in-whole = whole-in rows v R space exact spanned.0 spanned.1
+
           go : (0 < length R.basis) ⊎ (length R.basis ≤ 0) → 0 < length R.basis
           go (inl l) = l
-          go (inr l) = absurd (field.one_not_zero (whole-in.sum 0
-              ∙ ap (λ n. combination F.ring n whole-in.coefficients (vectors_of F R.basis) 0)
+          go (inr l) = absurd (field.one_not_zero (in-whole.sum 0
+              ∙ ap (λ n. combination F.ring n in-whole.coefficients (vectors_of F R.basis) 0)
               (let e : length R.basis ≡ 0 = omega (arith, l) in e)))
 
       abbrev b : ℕ → F.carrier
       b = vectors_of F R.basis 0
 
-      b-in : InSpace F s (combination_of F (v ∷ rows) b)
-      b-in = ((exact b).0 (span-one F.ring laws (length R.basis) (vectors_of F R.basis) 0
-          some-relation)).1
+      b-in : InSpace F R b
+      b-in = span-one F.ring laws (length R.basis) (vectors_of F R.basis) 0 some-relation
 
       b-first : b 0 ≡ F.one
       b-first = go (pivot R 0) refl
@@ -371,7 +410,8 @@ module _ (F : Elements ℕ) (laws : IsCommRing F.ring) (tests : IsTested F.ring)
               (combination_of F rows (λ i. b (suc i)) j)
               ∙ ap (λ t. F.add (F.mul t (vector_of F v j))
               (combination_of F rows (λ i. b (suc i)) j)) (sym begins)
-              ∙ sym (front b j)) b-in) q (omega (arith, inside, e))))
+              ∙ sym (front rows v R space exact b j)) ((exact b).0 b-in).1) q
+              (omega (arith, inside, e))))
             where
               begins : b 0 ≡ F.zero
               begins = space.space.echelon.begins 0 0 some-relation (omega (arith, e))
@@ -384,14 +424,44 @@ module _ (F : Elements ℕ) (laws : IsCommRing F.ring) (tests : IsTested F.ring)
       pub relation-coordinates : (c : ℕ → F.carrier)
           → ((i : ℕ) → i < length rows → c i ≡ F.neg (vectors_of F R.basis 0 (suc i)))
           → IsCombinationModulo F s rows c (vector_of F v)
-      relation-coordinates c h = in-same s _ _ (λ j.
-          ap (λ t. F.add (vector_of F v j) (F.neg t)) (sum-ext F.ring laws (length rows) _ _
-          (λ i l. ap (λ t. F.mul t (vectors_of F rows i j)) (h i l)
-          ∙ ring2 F.ring laws (λ c x. neg c ⊗ x) (λ c x. neg unit ⊗ (c ⊗ x)) refl (b (suc i))
-          (vectors_of F rows i j)) ∙ sum-mul F.ring laws (length rows) (F.neg F.one)
-          (λ i. F.mul (b (suc i)) (vectors_of F rows i j)))
-          ∙ ring2 F.ring laws (λ v x. v ⊕ neg (neg unit ⊗ x)) (λ v x. unit ⊗ v ⊕ x) refl
-          (vector_of F v j) (combination_of F rows (λ i. b (suc i)) j)
-          ∙ ap (λ t. F.add (F.mul t (vector_of F v j))
-          (combination_of F rows (λ i. b (suc i)) j)) (sym b-first)
-          ∙ sym (front b j)) b-in
+      relation-coordinates c h = relation-solves rows v R space exact b b-in b-first c h
+
+-- the first of the vectors of an echelon form
+module _ (F : Elements ℕ) (laws : IsCommRing F.ring) (n : ℕ) (R : SpaceParts)
+    (space : IsSpaceOf F n R) where
+  -- it begins with 1 where its first entry is not 0
+  pub first-one : 0 < length R.basis → ¬ (vectors_of F R.basis 0 0 ≡ F.zero)
+      → vectors_of F R.basis 0 0 ≡ F.one
+  first-one some h = go (pivot R 0) refl
+    where
+      go : (p : ℕ) → pivot R 0 ≡ p → vectors_of F R.basis 0 0 ≡ F.one
+      go zero e = ap (vectors_of F R.basis 0) (sym e) ∙ space.space.echelon.one_at 0 some
+      go (suc q) e = absurd (h (space.space.echelon.begins 0 0 some (omega (arith, e))))
+
+  -- where it is 0, or there is no vector, all vectors of the space begin with 0
+  pub all-zero : (0 < length R.basis → vectors_of F R.basis 0 0 ≡ F.zero) → (v : ℕ → F.carrier)
+      → InSpace F R v → v 0 ≡ F.zero
+  all-zero h v k = k.sum 0 ∙ sum-ext F.ring laws (length R.basis) _ (λ i. F.zero) (λ i l.
+      ap (F.mul (k.coefficients i)) (zeros i l)
+      ∙ ring1 F.ring laws (λ c. c ⊗ nil) (λ c. nil) refl (k.coefficients i))
+      ∙ sum-zero F.ring laws (length R.basis)
+    where
+      zeros : (i : ℕ) → i < length R.basis → vectors_of F R.basis i 0 ≡ F.zero
+      zeros zero l = h l
+      zeros (suc i) l = space.space.echelon.begins (suc i) 0 l
+          (let r = space.space.echelon.rises 0 (suc i) (omega arith) l in omega (arith, r))
+
+  -- a row that is the first
+  module _ (row : List ℕ) (same : get_or R.basis 0 [] ≡ row) (some : 0 < length R.basis) where
+    pub tail-of-one : (c : ℕ → F.carrier) → length row ≡ n → IsNegativeTail F row c
+        → IsTailOfOne F R c
+    tail-of-one c len h = record {
+      whole = vectors_of F R.basis 0;
+      inside = span-one F.ring laws (length R.basis) (vectors_of F R.basis) 0 some;
+      first = first-one some (λ z. h.nonzero (ap (λ r. vector_of F r 0) (sym same) ∙ z));
+      rest = λ i l. h.rest i (let e = space.len in omega (arith, l, e, len))
+          ∙ ap (λ r. F.neg (vector_of F r (suc i))) (sym same);
+    }
+
+    pub begins-with-zero : vector_of F row 0 ≡ F.zero → BeginsWithZero F R
+    begins-with-zero z = all-zero (λ l. ap (λ r. vector_of F r 0) same ∙ z)

@@ -1,13 +1,14 @@
 // Bases of vectors modulo a space, and coordinates by them.
-ghost use Rattle.std.specs.Prelude.{◌≡◌, ℕ, ◌<◌, ◌-◌, suc, ◌∷◌, length, IfOk};
+ghost use Rattle.std.specs.Prelude.{◌≡◌, ℕ, ◌<◌, ◌-◌, suc, ◌∷◌, length, IfOk, IfSome, IfNone};
 ghost use Rattle.std.specs.List.{All};
 ghost use Rattle.ff_theory.specs.Ring.{IsElement};
 ghost use Rattle.ff_theory.specs.Vector.{vector_of, IsVector};
 ghost use Rattle.ff_lin.specs.Space.{rows_of, AreVectors, IsSpace};
 ghost use Rattle.ff_modulo.specs.Modulo.{IsBasisModulo, IsSpannedModulo, IsIndependentModulo};
-ghost use Rattle.ff_modulo.specs.Modulo.{IsCombinationModulo};
+ghost use Rattle.ff_modulo.specs.Modulo.{IsCombinationModulo, IsTailOfOne, BeginsWithZero};
+ghost use Rattle.ff_modulo.specs.Modulo.{IsNegativeTail};
 
-use ff_alg::{FiniteField, NoMemory};
+use ff_alg::{FiniteField, NoMemory, is_zero};
 use ff_lin::Space;
 use std::alloc::Global;
 
@@ -95,4 +96,74 @@ pub fn coordinates_modulo<K: FiniteField<E = u32>>(
     let images = with_others(alloc, v, rows)?;
     let relations = space.preimage(alloc, k, &images)?;
     negative_tail(alloc, k, &relations.basis()[0])
+}
+
+/// The negatives of the entries after the first, where that is not 0.
+fn tail_after_unit<K: FiniteField<E = u32>>(
+    alloc: Global,
+    k: &K,
+    v: &[u32],
+) -> Result<Option<Vec<u32>>, NoMemory>
+    requires each { All (IsElement (K.elements k.now)) v.now }
+    requires nonempty { 0 < length v.now }
+    ensures vector { let F = K.elements k.now in
+        IfOk result (λ o. IfSome o (λ r. IsVector F (length v.now - 1) r.items)) }
+    ensures some { let F = K.elements k.now in
+        IfOk result (λ o. IfSome o (λ r. IsNegativeTail F v.now (vector_of F r.items))) }
+    ensures none { let F = K.elements k.now in
+        IfOk result (λ o. IfNone o (vector_of F v.now 0 ≡ F.zero)) }
+{
+    if is_zero(k, v[0]) {
+        return Ok(None);
+    }
+    Ok(Some(negative_tail(alloc, k, v)?))
+}
+
+/// The coefficients that the first of the relations of a vector and rows gives, where the vector
+/// takes part in it.
+fn first_tail<K: FiniteField<E = u32>>(
+    alloc: Global,
+    k: &K,
+    relations: &Space,
+) -> Result<Option<Vec<u32>>, NoMemory>
+    requires space { IsSpace (K.elements k.now) relations.now }
+    requires nonempty { 0 < relations.now.len }
+    ensures vector { let F = K.elements k.now in
+        IfOk result (λ o. IfSome o (λ r. IsVector F (relations.now.len - 1) r.items)) }
+    ensures some { let F = K.elements k.now in IfOk result
+        (λ o. IfSome o (λ r. IsTailOfOne F relations.now (vector_of F r.items))) }
+    ensures none { let F = K.elements k.now in
+        IfOk result (λ o. IfNone o (BeginsWithZero F relations.now)) }
+{
+    let basis = relations.basis();
+    if basis.len() == 0 {
+        return Ok(None);
+    }
+    tail_after_unit(alloc, k, &basis[0])
+}
+
+/// The coefficients of a combination of the rows that a vector is modulo the space, and None
+/// exactly where it is no combination. The vectors have the space's length. `NoMemory` is the only
+/// error.
+pub fn solve_modulo<K: FiniteField<E = u32>>(
+    alloc: Global,
+    k: &K,
+    space: &Space,
+    rows: &[Vec<u32>],
+    v: Vec<u32>,
+) -> Result<Option<Vec<u32>>, NoMemory>
+    requires space { IsSpace (K.elements k.now) space.now }
+    requires rows { AreVectors (K.elements k.now) space.now.len rows.now }
+    requires v { IsVector (K.elements k.now) space.now.len v.items }
+    ensures vector { let F = K.elements k.now in
+        IfOk result (λ o. IfSome o (λ r. IsVector F (length rows.now) r.items)) }
+    ensures some { let F = K.elements k.now in IfOk result (λ o. IfSome o
+        (λ r. IsCombinationModulo F space.now (rows_of rows.now) (vector_of F r.items)
+        (vector_of F v.items))) }
+    ensures none { let F = K.elements k.now in IfOk result (λ o. IfNone o
+        (¬ IsSpannedModulo F space.now (rows_of rows.now) (vector_of F v.items))) }
+{
+    let images = with_others(alloc, v, rows)?;
+    let relations = space.preimage(alloc, k, &images)?;
+    first_tail(alloc, k, &relations)
 }

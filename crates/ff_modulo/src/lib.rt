@@ -3,4 +3,4 @@
 
 mod bases;
 
-pub use bases::{basis_modulo, coordinates_modulo};
+pub use bases::{basis_modulo, coordinates_modulo, solve_modulo};

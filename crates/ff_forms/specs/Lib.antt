@@ -1,0 +1,2 @@
+-- Forms of points, functions, relations and candidates
+pub mod Forms

@@ -1,0 +1,2 @@
+-- The map of a candidate on coordinates.
+pub mod Maps

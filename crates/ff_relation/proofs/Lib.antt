@@ -1,0 +1,2 @@
+-- Monic polynomials
+pub mod Monic

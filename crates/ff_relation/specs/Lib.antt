@@ -1,0 +1,2 @@
+-- Forms of what reduction modulo multiples of powers needs and gives.
+pub mod Reduction
