@@ -28,13 +28,23 @@ FAULTS = [
 ]
 POLY = rb"[0-9xy^*+]+"
 ELEM = rb"(?:%b|\(%b\)/\([0-9x^*+]+\))" % (POLY, POLY)
+LINES = rb"(?:X=%b; Y=%b; U=%b; V=%b\n)*" % (ELEM, ELEM, ELEM, ELEM)
+REDUCIBLE = rb"is reducible: \(%b\)\*\(%b\)" % (POLY, POLY)
+REFUSALS = [
+    (2, re.compile(rb"premise: equation [12] (is inseparable in y|%b)\n" % REDUCIBLE)),
+    (2, re.compile(rb"premise: the first field has no rational place\n")),
+    (2, re.compile(rb"premise: the genus is [01]\n")),
+    (3, re.compile(rb"limit: no pole system within 1200\n")),
+]
 ANSWERS = {
+    "iso": [*FAULTS, *REFUSALS, (0, re.compile(rb"isomorphisms: [0-9]+\n" + LINES))],
+    "aut": [*FAULTS, *REFUSALS, (0, re.compile(rb"automorphisms: [0-9]+\n" + LINES))],
     "check": [*FAULTS, (0, re.compile(rb"(yes|no)\n"))],
     "order": [
         *FAULTS,
         (0, re.compile(rb"finite: [0-9]+\n(?:%b\n)*infinite: [0-9]+\n(?:%b\n)*" % (ELEM, ELEM))),
         (2, re.compile(rb"premise: equation 1 is inseparable in y\n")),
-        (2, re.compile(rb"premise: equation 1 is reducible: \(%b\)\*\(%b\)\n" % (POLY, POLY))),
+        (2, re.compile(rb"premise: equation 1 %b\n" % REDUCIBLE)),
     ],
 }
 
@@ -52,7 +62,11 @@ def place(text):
 def complaint(case):
     """What is wrong with the answer to an input, or None."""
     form, data = case
-    status, text, errors = run(form, data)
+    try:
+        status, text, errors = run(form, data)
+    except subprocess.TimeoutExpired:
+        # A list of a large genus over a large field takes longer: nothing is said of it.
+        return None if form in ("iso", "aut") else "no answer within a minute"
     answers = ANSWERS[form]
     if errors or not any(status == wanted and it.fullmatch(text) for wanted, it in answers):
         return f"status {status}, answer {text!r}, errors {errors!r}"

@@ -1,2 +1,3 @@
 -- Odd primes and exponents
 pub mod OddPrimes
+pub mod Sizes

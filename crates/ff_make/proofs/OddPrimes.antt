@@ -1,8 +1,8 @@
 -- The odd primes of the table, and the exponents that they do not divide.
-use Rattle.std.proofs.Common.{◌≡◌, ℕ, suc, ◌<◌, ◌%◌, ◌==◌, ◌+◌, Bool, true, false, not, cond, IsTrue}
+use Rattle.std.proofs.Common.{◌≡◌, ℕ, zero, suc, ◌<◌, ◌≤◌, ◌%◌, ◌==◌, ◌+◌, Bool, true, false, not, cond, IsTrue}
 use Rattle.std.proofs.Common.{List, [], ◌∷◌, get_or, length, nat_eq, nat_lt, refl, sym, ◌∙◌, ap}
-use Rattle.std.proofs.Common.{subst, lit<, arith}
-use Rattle.std.specs.List.{AllPass}
+use Rattle.std.proofs.Common.{subst, lit<, lit≤, arith}
+use Rattle.std.specs.List.{AllPass, filter}
 use Rattle.std.proofs.lemmas.List.Elements.{All-get_or}
 use Rattle.std.proofs.lemmas.List.Sums.{AllPass-from_list_all}
 use Rattle.std.proofs.lemmas.Bool.{eqb-true, ltb-true}
@@ -71,3 +71,26 @@ module _ (p : ℕ) (g : (i : ℕ) × ((i < 24) × (p ≡ get_or primes (i + 1) 0
   pub all_exponents : exponents_for p ≡ 11 ∷ 9 ∷ 7 ∷ 5 ∷ []
   all_exponents = large_exponents p (ltb-true 12 p (sym by_size
       ∙ subst (λ q. is_small_or_large q ≡ true) (sym by_index) (odd_by_size g.0 g.1.0)))
+
+-- no exponent is above 11
+abbrev AllFew : List ℕ → Type 0
+AllFew [] = Unit {0}
+AllFew (x ∷ xs) = (x ≤ 11) × AllFew xs
+
+few_left : (test : ℕ → Bool) (xs : List ℕ) → AllFew xs → AllFew (filter test xs)
+few_left test [] h = tt
+few_left test (x ∷ xs) h = go (test x) (few_left test xs h.1)
+  where
+    go : (b : Bool) → AllFew (filter test xs) → AllFew (cond b (x ∷ filter test xs) (filter test xs))
+    go true rest = (h.0, rest)
+    go false rest = rest
+
+few_at : (xs : List ℕ) (j : ℕ) → AllFew xs → get_or xs j 0 ≤ 11
+few_at [] j h = lit≤ tt
+few_at (x ∷ xs) zero h = h.0
+few_at (x ∷ xs) (suc j) h = few_at xs j h.1
+
+pub exponent_few : (p j : ℕ) → get_or (exponents_for p) j 0 ≤ 11
+exponent_few p j = few_at (exponents_for p) j
+    (few_left (λ m. not (m % p == 0)) (11 ∷ 9 ∷ 7 ∷ 5 ∷ [])
+    (lit≤ tt, (lit≤ tt, (lit≤ tt, (lit≤ tt, tt)))))

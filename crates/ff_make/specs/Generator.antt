@@ -4,7 +4,8 @@ use Rattle.std.specs.List.{filter}
 use Rattle.ff_theory.specs.Ring.{Elements}
 use Rattle.ff_theory.specs.PrimeTable.{primes, prime_elements}
 use Rattle.ff_theory.specs.Poly.{polynomials}
-use Rattle.ff_theory.specs.Values.{plane_of, IsPlane}
+use Rattle.ff_theory.specs.Values.{plane_of}
+use Rattle.ff_poly.specs.Limits.{IsEquation}
 use Rattle.ff_prime.specs.declared.prime.Prime.{Prime}
 use Rattle.ff_prime.specs.Number.{number_of}
 use Rattle.ff_make.specs.Curve.{curve, quintic}
@@ -28,11 +29,12 @@ shift_of n = (n / 24 + 1) % characteristic_of n
 abbrev pub coefficient_of : ℕ → ℕ
 coefficient_of n = n % characteristic_of n
 
--- the field, y^2 - x^m - 1, and (y + x^5 + c*x)^2 - (x + s)^m - 1, multiplied out
+-- The field, y^2 - x^m - 1, and (y + x^5 + c*x)^2 - (x + s)^m - 1, multiplied out; both are within
+-- the limits of an equation.
 pub record IsGenerated (n : ℕ) (k : Prime) (first second : List (List ℕ)) : Type 0 where
   pub prime : number_of k ≡ characteristic_of n
-  pub first_plane : IsPlane (prime_elements (number_of k)) first
-  pub second_plane : IsPlane (prime_elements (number_of k)) second
+  pub first_equation : IsEquation (prime_elements (number_of k)) first
+  pub second_equation : IsEquation (prime_elements (number_of k)) second
   pub first_is : let F = prime_elements (number_of k) in
       plane_of F first ≡ curve F (polynomials F.ring).zero F.zero (exponent_of n)
   pub second_is : let F = prime_elements (number_of k) in

@@ -1,9 +1,10 @@
 // Hyperelliptic curves in shifted coordinates.
-ghost use Rattle.std.specs.Prelude.{◌≡◌, ℕ, IfOk};
+ghost use Rattle.std.specs.Prelude.{◌≡◌, ◌≤◌, ℕ, length, IfOk};
 ghost use Rattle.ff_theory.specs.Ring.{IsElement};
 ghost use Rattle.ff_theory.specs.Values.{poly_of, IsPoly, polys_over};
 ghost use Rattle.ff_theory.specs.Values.{plane_of, IsPlane, planes_over};
 ghost use Rattle.ff_theory.specs.Planes.{row_of};
+ghost use Rattle.ff_poly.specs.Limits.{IsEquation};
 ghost use Rattle.ff_make.specs.Curve.{y_plus, right_side};
 ghost use Rattle.ff_make.specs.Curve.{curve as curve_of, quintic as quintic_of};
 
@@ -16,6 +17,7 @@ use std::slice;
 pub fn quintic<K: FiniteField<E = u32>>(alloc: Global, k: &K, c: u32) -> Result<Poly, NoMemory>
     requires { IsElement (K.elements k.now) c }
     ensures poly { IfOk result (IsPoly (K.elements k.now)) }
+    ensures few { IfOk result (λ r. length r ≤ 6) }
     ensures value { let F = K.elements k.now in
         IfOk result (λ r. poly_of F r ≡ quintic_of F (F.value c)) }
 {
@@ -63,7 +65,8 @@ fn negative_row<K: FiniteField<E = u32>>(alloc: Global, k: &K, p: &Poly) -> Resu
     Plane::from_rows(alloc, k, slice::from_ref(&negative))
 }
 
-/// The equation `(y + h)^2 - (x + s)^m - 1`, multiplied out. `NoMemory` is the only error.
+/// The equation `(y + h)^2 - (x + s)^m - 1`, multiplied out, for h of degree at most 5 and m of at
+/// most 11. `NoMemory` is the only error.
 pub fn curve<K: FiniteField<E = u32>>(
     alloc: Global,
     k: &K,
@@ -72,8 +75,10 @@ pub fn curve<K: FiniteField<E = u32>>(
     m: u32,
 ) -> Result<Plane, NoMemory>
     requires h { IsPoly (K.elements k.now) h }
+    requires short { length h ≤ 6 }
     requires s { IsElement (K.elements k.now) s }
-    ensures plane { IfOk result (IsPlane (K.elements k.now)) }
+    requires few { m ≤ 11 }
+    ensures equation { IfOk result (IsEquation (K.elements k.now)) }
     ensures value { let F = K.elements k.now in
         IfOk result (λ r. plane_of F r ≡ curve_of F (poly_of F h) (F.value s) m) }
 {

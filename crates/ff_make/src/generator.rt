@@ -48,7 +48,8 @@ fn exponent(p: u32, q: u32) -> u32
 /// satisfies f: the prime p is the odd prime of the table at the remainder of n by 24, and q the
 /// whole part of n / 24; m is one of 11, 9, 7 and 5 without multiples of p, s the remainder of
 /// q + 1 by p, h is `x^5 + c*x` with c the remainder of n by p; f is `y^2 - x^m - 1`, and g is
-/// `(y + h)^2 - (x + s)^m - 1`, multiplied out. `NoMemory` is the only error. This project's own.
+/// `(y + h)^2 - (x + s)^m - 1`, multiplied out. Both are within the limits of an equation.
+/// `NoMemory` is the only error. This project's own.
 pub fn generate(alloc: Global, n: u32) -> Result<(Prime, Plane, Plane), NoMemory>
     ensures { IfOk result (λ r. IsGenerated n r.0 r.1 r.2) }
 {

@@ -1,15 +1,19 @@
 // The relation, and the basis written over the powers of w.
-ghost use Rattle.std.specs.Prelude.{◌≡◌, ◌+◌, ◌<◌, length, IfOk};
-ghost use Rattle.ff_theory.specs.Values.{ArePolys, IsPoly};
-ghost use Rattle.ff_data.specs.Systems.{AreCoords, AreOverMonic};
-ghost use Rattle.ff_ring.specs.Ring.{HasTable, AreCoordsList};
+ghost use Rattle.std.specs.Prelude.{◌≡◌, ℕ, ◌+◌, ◌<◌, length, IfOk};
+ghost use Rattle.ff_theory.specs.Values.{ArePolys, IsPoly, polys_over};
+ghost use Rattle.ff_table.specs.Powers.{IsRelation};
+ghost use Rattle.ff_data.specs.Systems.{AreCoords, AreOverMonic, weight_at};
+ghost use Rattle.ff_ring.specs.Entries.{entry_at};
+ghost use Rattle.ff_ring.specs.Ring.{HasTable, MeetsRule, AreCoordsList, table_in, element_in};
 ghost use Rattle.ff_forms.specs.Forms.{HasRelationForm};
+ghost use Rattle.ff_relation.specs.Combination.{IsDifference};
 ghost use Rattle.ff_relation.specs.Reduction.{IsPowerBasis, IsMonic};
+ghost use Rattle.ff_relation.specs.InRing.{PowersOf, IsRelationOf, basis_in};
 ghost use Rattle.std.specs.List.{All};
 
 use crate::annihilator::{annihilator, one};
 use crate::bases::{PowerBasis, basis_element, power_basis, powers, product};
-use crate::choice::choice;
+use crate::choice::{choice, weight_of};
 use crate::reduce::reduce;
 use ff_alg::{FiniteField, NoMemory};
 use ff_data::{Coords, CoordsList, Relation, System};
@@ -144,7 +148,9 @@ fn negative<K: FiniteField<E = u32>>(
     c: &[Poly],
 ) -> Result<PolyList, NoMemory>
     requires c { AreCoords (K.elements k.now) s.now c.now }
-    ensures { IfOk result (AreCoords (K.elements k.now) s.now) }
+    ensures form { IfOk result (AreCoords (K.elements k.now) s.now) }
+    ensures value { let F = K.elements k.now in let P = polys_over F in
+        IfOk result (λ r. (l : ℕ) → l < s.now.e → entry_at F r l ≡ P.neg (entry_at F c.now l)) }
 {
     let _system = s;
     let minus = monomial_poly(alloc, k, k.neg(k.one()), 0)?;
@@ -164,7 +170,10 @@ fn coefficients<K: FiniteField<E = u32>>(
     requires table { HasTable (K.elements k.now) s.now }
     requires p { IsPowerBasis (K.elements k.now) s.now p.now }
     requires w { AreCoords (K.elements k.now) s.now w.now }
-    ensures { IfOk result (AreCoords (K.elements k.now) s.now) }
+    ensures form { IfOk result (AreCoords (K.elements k.now) s.now) }
+    ensures exact { let F = K.elements k.now in let S = table_in F s.now in
+        PowersOf F s.now (element_in F s.now w.now) p.now →
+        IfOk result (λ r. IsRelation F.ring S (element_in F s.now w.now) (entry_at F r)) }
 {
     let last = product(alloc, k, s, p.list[s.e as usize - 1].rows(), w)?;
     let reduced = reduce(alloc, k, s, p, last.rows())?;
@@ -182,7 +191,9 @@ fn relation_of<K: FiniteField<E = u32>>(
     requires table { HasTable (K.elements k.now) s.now }
     requires p { IsPowerBasis (K.elements k.now) s.now p.now }
     requires w { AreCoords (K.elements k.now) s.now w }
-    ensures { IfOk result (HasRelationForm (K.elements k.now) s.now) }
+    ensures form { IfOk result (HasRelationForm (K.elements k.now) s.now) }
+    ensures exact { let F = K.elements k.now in
+        PowersOf F s.now (element_in F s.now w) p.now → IfOk result (IsRelationOf F s.now) }
 {
     let coeffs = coefficients(alloc, k, s, p, w.rows())?;
     let q = denominator(alloc, k, s, p)?;
@@ -201,10 +212,14 @@ fn power_basis_of<K: FiniteField<E = u32>>(
     requires table { HasTable (K.elements k.now) s.now }
     requires i { i < s.now.e }
     requires w { AreCoords (K.elements k.now) s.now w.now }
-    ensures { IfOk result (IsPowerBasis (K.elements k.now) s.now) }
+    ensures form { IfOk result (IsPowerBasis (K.elements k.now) s.now) }
+    ensures exact { let F = K.elements k.now in MeetsRule F s.now →
+        element_in F s.now w.now ≡ basis_in F s.now i →
+        IsDifference (weight_at s.now i) s.now.e 1 →
+        IfOk result (PowersOf F s.now (element_in F s.now w.now)) }
 {
     let list = powers(alloc, k, s, w, s.e as usize - 1)?;
-    power_basis(alloc, k, s, list, s.weights.items[i])
+    power_basis(alloc, k, s, list, weight_of(s, i))
 }
 
 /// A relation of a pole system: w is a basis element of least weight among those whose weight is
@@ -218,7 +233,9 @@ pub fn relation<K: FiniteField<E = u32>>(
     s: &System,
 ) -> Result<Relation, NoMemory>
     requires { HasTable (K.elements alg.now.k) s.now }
-    ensures { IfOk result (HasRelationForm (K.elements alg.now.k) s.now) }
+    ensures form { IfOk result (HasRelationForm (K.elements alg.now.k) s.now) }
+    ensures exact { let F = K.elements alg.now.k in MeetsRule F s.now →
+        IfOk result (IsRelationOf F s.now) }
 {
     let i = choice(s);
     let w = basis_element(alloc, &alg.k, s, i)?;

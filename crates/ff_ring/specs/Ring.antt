@@ -1,12 +1,14 @@
 -- The ring of the table of a system: coordinates over k[z], and their products.
-use Rattle.std.specs.Prelude.{◌≡◌, ℕ, ◌+◌, ◌^◌, ◌<◌, List, [], length, get_or}
+use Rattle.std.specs.Prelude.{◌≡◌, ℕ, ◌+◌, ◌^◌, ◌<◌, List, [], length, get_or, map}
 use Rattle.std.specs.List.{All}
-use Rattle.ff_theory.specs.Ring.{RingOps, Elements, IsElement}
+use Rattle.ff_theory.specs.Ring.{RingOps, Elements, IsElement, power}
 use Rattle.ff_theory.specs.Poly.{Poly}
+use Rattle.ff_theory.specs.Monomial.{variable}
 use Rattle.ff_theory.specs.Sum.{sum_below}
 use Rattle.ff_theory.specs.Values.{poly_of, polys_over}
 use Rattle.ff_table.specs.Coords.{product_at as table_product}
-use Rattle.ff_table.specs.Table.{Table, table_ring}
+use Rattle.ff_table.specs.Table.{Table, IsTable, table_ring}
+use Rattle.ff_table.specs.Level.{z_multiple, scaled, basis}
 use Rattle.ff_table.specs.InCode.{coords_of, table_of}
 use Rattle.ff_data.specs.declared.system.System.{System}
 use Rattle.ff_data.specs.Systems.{AreCoords, product_at}
@@ -51,11 +53,25 @@ product F s a b = table_product (polys_over F) s.e (table_entry F s) (entry_at F
 abbrev pub table_in : (F : Elements ℕ) → System → Table F.ring
 table_in F s = table_of F.ring (λ p. poly_of F p) s.weights s.table
 
+-- the table rule
+abbrev pub MeetsRule : Elements ℕ → System → Type 0
+MeetsRule F s = IsTable F.ring (table_in F s)
+
 abbrev pub ring_in : Elements ℕ → System → RingOps
 ring_in F s = table_ring F.ring (table_in F s)
 
 abbrev pub element_in : (F : Elements ℕ) (s : System) → List (List ℕ) → (ring_in F s).carrier
 element_in F s c = coords_of (polys_over F) (λ p. poly_of F p) (length s.weights) c
+
+abbrev pub elements_in : (F : Elements ℕ) (s : System) → List (List (List ℕ))
+    → List (ring_in F s).carrier
+elements_in F s p = map (λ c. element_in F s c) p
+
+-- the element c * z ^ n * b_l of a monomial
+abbrev pub monomial_in : (F : Elements ℕ) (s : System) → Monomial → (ring_in F s).carrier
+monomial_in F s a = scaled F.ring (table_in F s) (F.value a.c)
+    (z_multiple F.ring (table_in F s) (power (polys_over F) (variable F.ring) a.power)
+    (basis F.ring (table_in F s) a.class))
 
 -- n coordinates of elements
 pub record AreCoordsList (F : Elements ℕ) (s : System) (n : ℕ) (p : List (List (List ℕ)))

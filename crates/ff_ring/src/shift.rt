@@ -3,7 +3,9 @@ ghost use Rattle.std.specs.Prelude.{◌≡◌, ◌+◌, ◌<◌, ◌≤◌, [], 
 ghost use Rattle.std.specs.List.{All};
 ghost use Rattle.ff_theory.specs.Ring.{IsElement};
 ghost use Rattle.ff_data.specs.Systems.{AreCoords};
-ghost use Rattle.ff_ring.specs.Ring.{HasTable, AreCoordsList, IsMonomial};
+ghost use Rattle.ff_table.specs.Shift.{value_at, shift, carry as carry_of};
+ghost use Rattle.ff_ring.specs.Ring.{HasTable, AreCoordsList, IsMonomial, ring_in, element_in};
+ghost use Rattle.ff_ring.specs.Ring.{elements_in, monomial_in};
 
 use crate::level::{Monomial, monomial_poly};
 use crate::linear::{ring_add, ring_scale, zero_coords};
@@ -27,7 +29,10 @@ fn plus_monomial_product<K: FiniteField<E = u32>>(
     requires a { IsMonomial (K.elements k.now) s.now a.now }
     requires h { AreCoords (K.elements k.now) s.now h.now }
     requires x { AreCoords (K.elements k.now) s.now x.now }
-    ensures { IfOk result (AreCoords (K.elements k.now) s.now) }
+    ensures coords { IfOk result (AreCoords (K.elements k.now) s.now) }
+    ensures value { let F = K.elements k.now in let T = ring_in F s.now in
+        IfOk result (λ r. element_in F s.now r ≡ T.add (element_in F s.now h.now)
+        (T.mul (monomial_in F s.now a.now) (element_in F s.now x.now))) }
 {
     let factor = monomial_poly(alloc, k, a.c, a.power)?;
     let y = ring_scale(alloc, k, &factor, x)?;
@@ -57,7 +62,11 @@ fn carry<K: FiniteField<E = u32>>(
     requires a { IsMonomial (K.elements k.now) s.now a.now }
     requires h { AreCoords (K.elements k.now) s.now h.now }
     requires p { All (AreCoords (K.elements k.now) s.now) p.now }
-    ensures { IfOk result (λ r. AreCoordsList (K.elements k.now) s.now (length p.now + 1) r.items) }
+    ensures coords { let F = K.elements k.now in
+        IfOk result (λ r. AreCoordsList F s.now (length p.now + 1) r.items) }
+    ensures value { let F = K.elements k.now in
+        IfOk result (λ r. elements_in F s.now r.items ≡ carry_of (ring_in F s.now)
+        (monomial_in F s.now a.now) (element_in F s.now h.now) (elements_in F s.now p.now)) }
 {
     let mut sum = Vec::new(alloc);
     for i in 0..p.len() {
@@ -80,7 +89,11 @@ pub fn ring_shift<K: FiniteField<E = u32>>(
     requires table { HasTable (K.elements k.now) s.now }
     requires a { IsMonomial (K.elements k.now) s.now a.now }
     requires p { All (AreCoords (K.elements k.now) s.now) p.now }
-    ensures { IfOk result (λ r. AreCoordsList (K.elements k.now) s.now (length p.now) r.items) }
+    ensures coords { let F = K.elements k.now in
+        IfOk result (λ r. AreCoordsList F s.now (length p.now) r.items) }
+    ensures value { let F = K.elements k.now in
+        IfOk result (λ r. elements_in F s.now r.items ≡ shift (ring_in F s.now)
+        (monomial_in F s.now a.now) (elements_in F s.now p.now)) }
 {
     let mut moved = Vec::new(alloc);
     let mut i = p.len();
@@ -104,7 +117,10 @@ fn plus_ring_product<K: FiniteField<E = u32>>(
     requires h { AreCoords (K.elements k.now) s.now h.now }
     requires a { AreCoords (K.elements k.now) s.now a.now }
     requires b { AreCoords (K.elements k.now) s.now b.now }
-    ensures { IfOk result (λ r. AreCoords (K.elements k.now) s.now r.items) }
+    ensures coords { IfOk result (λ r. AreCoords (K.elements k.now) s.now r.items) }
+    ensures value { let F = K.elements k.now in let T = ring_in F s.now in
+        IfOk result (λ r. element_in F s.now r.items ≡ T.add (element_in F s.now h.now)
+        (T.mul (element_in F s.now a.now) (element_in F s.now b.now))) }
 {
     let product = ring_mul(alloc, k, s, a, b)?;
     ring_add(alloc, k, h, &product)
@@ -121,7 +137,10 @@ pub fn ring_eval<K: FiniteField<E = u32>>(
     requires table { HasTable (K.elements k.now) s.now }
     requires p { All (AreCoords (K.elements k.now) s.now) p.now }
     requires a { AreCoords (K.elements k.now) s.now a.now }
-    ensures { IfOk result (λ r. AreCoords (K.elements k.now) s.now r.items) }
+    ensures coords { IfOk result (λ r. AreCoords (K.elements k.now) s.now r.items) }
+    ensures value { let F = K.elements k.now in
+        IfOk result (λ r. element_in F s.now r.items ≡ value_at (ring_in F s.now)
+        (element_in F s.now a.now) (elements_in F s.now p.now)) }
 {
     let mut value = zero_coords(alloc, k, a.len())?;
     let mut i = p.len();

@@ -1,11 +1,15 @@
 // Leading polynomials: the coefficients of h_i * u^i at the greatest of their weights, where u is
 // the monomial at a level.
-ghost use Rattle.std.specs.Prelude.{◌≡◌, ◌*◌, ◌^◌, ◌<◌, ◌≤◌, length, IfOk};
+ghost use Rattle.std.specs.Prelude.{◌≡◌, ◌+◌, ◌*◌, ◌%◌, ◌^◌, ◌<◌, ◌≤◌, [], length, get_or, map};
+ghost use Rattle.std.specs.Prelude.{IfOk};
 ghost use Rattle.std.specs.List.{All};
 ghost use Rattle.ff_theory.specs.Ring.{IsElement};
-ghost use Rattle.ff_data.specs.Systems.{AreCoords};
-ghost use Rattle.ff_ring.specs.Ring.{HasTable};
-ghost use Rattle.ff_root.specs.States.{IsLead, value_of};
+ghost use Rattle.ff_theory.specs.Values.{leading};
+ghost use Rattle.ff_table.specs.Level.{top_constant};
+ghost use Rattle.ff_table.specs.Roots.{top_weight as top_weight_of, leading_poly as leading_of};
+ghost use Rattle.ff_data.specs.Systems.{AreCoords, product_at, weight_at};
+ghost use Rattle.ff_ring.specs.Ring.{HasTable, MeetsRule, table_in, elements_in};
+ghost use Rattle.ff_root.specs.States.{IsLead, IsCoefficientAt, weight_by, value_of};
 
 use ff_alg::{FiniteField, NoMemory, is_zero};
 use ff_data::System;
@@ -30,10 +34,14 @@ fn steps(i: usize, t: u32) -> u128
 }
 
 /// The weight of h, with `more` added, and 0 where h is 0.
-fn weight_of(s: &System, h: &[Poly], more: u128) -> u128
-    requires count { length h.now ≤ length s.now.weights }
+fn weight_of<K: FiniteField<E = u32>>(k: &K, s: &System, h: &[Poly], more: u128) -> u128
+    requires table { HasTable (K.elements k.now) s.now }
+    requires h { AreCoords (K.elements k.now) s.now h.now }
     requires more { more < 2 ^ 96 }
+    ensures { let F = K.elements k.now in
+        MeetsRule F s.now → result ≡ weight_by F s.now h.now more }
 {
+    let _field = k;
     match top(s, h) {
         Some(term) => term.weight + more,
         None => 0,
@@ -42,12 +50,15 @@ fn weight_of(s: &System, h: &[Poly], more: u128) -> u128
 
 /// The greatest of the weights of the products of h_i and the i-th power of the monomial at the
 /// level t.
-fn top_weight(s: &System, p: &[PolyList], t: u32) -> u128
-    requires { All (λ c. length c ≤ length s.now.weights) p.now }
+fn top_weight<K: FiniteField<E = u32>>(k: &K, s: &System, p: &[PolyList], t: u32) -> u128
+    requires table { HasTable (K.elements k.now) s.now }
+    requires p { All (AreCoords (K.elements k.now) s.now) p.now }
+    ensures { let F = K.elements k.now in MeetsRule F s.now →
+        result ≡ top_weight_of F.ring (table_in F s.now) t 0 (elements_in F s.now p.now) }
 {
     let mut n = 0;
     for i in 0..p.len() {
-        n = n.max(weight_of(s, p[i].rows(), steps(i, t)));
+        n = n.max(weight_of(k, s, p[i].rows(), steps(i, t)));
     }
     n
 }
@@ -58,7 +69,9 @@ fn factor<K: FiniteField<E = u32>>(k: &K, s: &System, i: usize, j: usize, l: usi
     requires i { i < s.now.e }
     requires j { j < s.now.e }
     requires l { l < s.now.e }
-    ensures { IsElement (K.elements k.now) result }
+    ensures element { IsElement (K.elements k.now) result }
+    ensures value { let F = K.elements k.now in
+        F.value result ≡ leading F (get_or (product_at s.now i j) l []) }
 {
     leading_coefficient(k, &s.table.rows[i].items[j].items[l])
 }
@@ -67,7 +80,8 @@ fn factor<K: FiniteField<E = u32>>(k: &K, s: &System, i: usize, j: usize, l: usi
 fn class_sum(e: u32, i: usize, j: usize) -> usize
     requires i { i < e }
     requires j { j < e }
-    ensures { result < e }
+    ensures below { result < e }
+    ensures value { result ≡ (i + j) % e }
 {
     (i + j) % e as usize
 }
@@ -77,7 +91,11 @@ fn product_lead<K: FiniteField<E = u32>>(k: &K, s: &System, a: Lead, b: Lead) ->
     requires table { HasTable (K.elements k.now) s.now }
     requires a { IsLead (K.elements k.now) s.now a }
     requires b { IsLead (K.elements k.now) s.now b }
-    ensures { IsLead (K.elements k.now) s.now result }
+    ensures lead { IsLead (K.elements k.now) s.now result }
+    ensures class { result.class ≡ (a.class + b.class) % s.now.e }
+    ensures value { let F = K.elements k.now in MeetsRule F s.now →
+        F.value result.c ≡ F.mul (F.mul (F.value a.c) (F.value b.c))
+        (top_constant F.ring (table_in F s.now) a.class b.class) }
 {
     let class = class_sum(s.e, a.class, b.class);
     let factor = factor(k, s, a.class, b.class, class);
@@ -101,7 +119,9 @@ fn coefficient_at<K: FiniteField<E = u32>>(
     requires h { AreCoords (K.elements k.now) s.now h.now }
     requires power { IsLead (K.elements k.now) s.now power }
     requires more { more < 2 ^ 96 }
-    ensures { IsElement (K.elements k.now) result }
+    ensures element { IsElement (K.elements k.now) result }
+    ensures value { let F = K.elements k.now in MeetsRule F s.now →
+        IsCoefficientAt F s.now h.now power more n result }
 {
     match top(s, h) {
         Some(term) => {
@@ -127,11 +147,15 @@ pub fn leading_poly<K: FiniteField<E = u32>>(
     t: u32,
 ) -> Result<Vec<u32>, NoMemory>
     requires table { HasTable (K.elements k.now) s.now }
+    requires level { weight_at s.now (t % s.now.e) ≤ t }
     requires p { All (AreCoords (K.elements k.now) s.now) p.now }
     ensures count { IfOk result (λ r. length r.items ≡ length p.now) }
     ensures each { IfOk result (λ r. All (IsElement (K.elements k.now)) r.items) }
+    ensures value { let F = K.elements k.now in MeetsRule F s.now →
+        IfOk result (λ r. map F.value r.items ≡
+        leading_of F.ring (table_in F s.now) t (elements_in F s.now p.now)) }
 {
-    let n = top_weight(s, p, t);
+    let n = top_weight(k, s, p, t);
     let step = Lead {
         class: class_of(s, t),
         c: k.one(),

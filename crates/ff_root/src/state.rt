@@ -1,18 +1,23 @@
 // States of the search: a partial sum of a root, and the polynomial moved by it.
-ghost use Rattle.std.specs.Prelude.{◌≡◌, ◌+◌, ◌%◌, ◌<◌, ◌≤◌, length, IfOk};
+ghost use Rattle.std.specs.Prelude.{◌≡◌, ◌+◌, ◌%◌, ◌<◌, ◌≤◌, [], length, get_or, IfOk, ◌↔◌, IsTrue};
 ghost use Rattle.std.specs.List.{All};
 ghost use Rattle.ff_theory.specs.Ring.{IsElement};
-ghost use Rattle.ff_theory.specs.Values.{IsPoly, ArePolys};
+ghost use Rattle.ff_theory.specs.Values.{poly_of, IsPoly, ArePolys};
+ghost use Rattle.ff_table.specs.Level.{z_multiple};
+ghost use Rattle.ff_table.specs.Shift.{shift};
+ghost use Rattle.ff_table.specs.Roots.{child as child_of, start as start_of};
+ghost use Rattle.ff_table.specs.Roots.{finished as finished_of};
 ghost use Rattle.ff_data.specs.Systems.{AreCoords, weight_at};
-ghost use Rattle.ff_ring.specs.Ring.{HasTable, AreCoordsList, IsMonomial};
-ghost use Rattle.ff_root.specs.States.{IsState, AreStates};
+ghost use Rattle.ff_ring.specs.Ring.{HasTable, MeetsRule, AreCoordsList, IsMonomial, table_in};
+ghost use Rattle.ff_ring.specs.Ring.{ring_in, element_in, elements_in, monomial_in};
+ghost use Rattle.ff_root.specs.States.{IsState, AreStates, state_in, states_in, monic_over};
 
 use ff_alg::{FiniteField, NoMemory, is_zero};
 use ff_data::{PolyLists, System};
 use ff_elem::PolyList;
 use ff_poly::Poly;
 use ff_ring::{
-    Monomial, basis_vector, class_of, is_zero_each, monomial_poly, power_of, ring_scale,
+    Monomial, basis_vector, class_of, is_zero_each, monomial_poly, plus_at, power_of, ring_scale,
     ring_shift, zero_coords,
 };
 use std::alloc::Global;
@@ -24,25 +29,6 @@ pub struct State {
     pub moved: PolyLists,
 }
 
-/// The sum where l is the class, and p otherwise.
-fn plus_at<K: FiniteField<E = u32>>(
-    alloc: Global,
-    k: &K,
-    p: &Poly,
-    term: &Poly,
-    l: usize,
-    class: usize,
-) -> Result<Poly, NoMemory>
-    requires p { IsPoly (K.elements k.now) p.now }
-    requires term { IsPoly (K.elements k.now) term.now }
-    ensures { IfOk result (IsPoly (K.elements k.now)) }
-{
-    if l == class {
-        return p.add(alloc, k, term);
-    }
-    p.copy(alloc)
-}
-
 /// Coordinates with a monomial added.
 fn plus_monomial<K: FiniteField<E = u32>>(
     alloc: Global,
@@ -51,17 +37,19 @@ fn plus_monomial<K: FiniteField<E = u32>>(
     sum: &[Poly],
     a: &Monomial,
 ) -> Result<PolyList, NoMemory>
+    requires table { HasTable (K.elements k.now) s.now }
     requires a { IsMonomial (K.elements k.now) s.now a.now }
     requires sum { AreCoords (K.elements k.now) s.now sum.now }
-    ensures { IfOk result (AreCoords (K.elements k.now) s.now) }
+    ensures coords { IfOk result (AreCoords (K.elements k.now) s.now) }
+    ensures value { let F = K.elements k.now in let T = ring_in F s.now in
+        IfOk result (λ r. element_in F s.now r ≡
+        T.add (element_in F s.now sum.now) (monomial_in F s.now a.now)) }
 {
     let _system = s;
     let term = monomial_poly(alloc, k, a.c, a.power)?;
-    let mut items = Vec::new(alloc);
-    for l in 0..sum.len() {
-        items.push(plus_at(alloc, k, &sum[l], &term, l, a.class)?)?;
-    }
-    Ok(PolyList { items })
+    Ok(PolyList {
+        items: plus_at(alloc, k, sum, &term, a.class)?,
+    })
 }
 
 /// Equal lists.
@@ -86,7 +74,11 @@ fn moved<K: FiniteField<E = u32>>(
     requires table { HasTable (K.elements k.now) s.now }
     requires a { IsMonomial (K.elements k.now) s.now a.now }
     requires p { All (AreCoords (K.elements k.now) s.now) p.now }
-    ensures { IfOk result (λ r. AreCoordsList (K.elements k.now) s.now (length p.now) r.items) }
+    ensures coords { let F = K.elements k.now in
+        IfOk result (λ r. AreCoordsList F s.now (length p.now) r.items) }
+    ensures value { let F = K.elements k.now in MeetsRule F s.now →
+        IfOk result (λ r. elements_in F s.now r.items ≡
+        shift (ring_in F s.now) (monomial_in F s.now a.now) (elements_in F s.now p.now)) }
 {
     if is_zero(k, a.c) {
         return copies(alloc, p);
@@ -107,7 +99,10 @@ pub fn child<K: FiniteField<E = u32>>(
     requires level { weight_at s.now (t % s.now.e) ≤ t }
     requires state { IsState (K.elements k.now) s.now (length state.now.moved) state.now }
     requires c { IsElement (K.elements k.now) c }
-    ensures { IfOk result (IsState (K.elements k.now) s.now (length state.now.moved)) }
+    ensures state { IfOk result (IsState (K.elements k.now) s.now (length state.now.moved)) }
+    ensures value { let F = K.elements k.now in MeetsRule F s.now →
+        IfOk result (λ r. state_in F s.now r ≡
+        child_of F.ring (table_in F s.now) t (state_in F s.now state.now) (F.value c)) }
 {
     let a = Monomial {
         c,
@@ -129,8 +124,12 @@ fn constant<K: FiniteField<E = u32>>(
     s: &System,
     p: &Poly,
 ) -> Result<PolyList, NoMemory>
-    requires { IsPoly (K.elements k.now) p.now }
-    ensures { IfOk result (AreCoords (K.elements k.now) s.now) }
+    requires p { IsPoly (K.elements k.now) p.now }
+    requires weights { length s.now.weights ≡ s.now.e }
+    ensures coords { IfOk result (AreCoords (K.elements k.now) s.now) }
+    ensures value { let F = K.elements k.now in let T = ring_in F s.now in
+        IfOk result (λ r. element_in F s.now r ≡
+        z_multiple F.ring (table_in F s.now) (poly_of F p.now) T.one) }
 {
     let one = basis_vector(alloc, k, s.e as usize, 0)?;
     Ok(PolyList {
@@ -145,9 +144,12 @@ fn monic<K: FiniteField<E = u32>>(
     s: &System,
     coeffs: &[Poly],
 ) -> Result<Vec<PolyList>, NoMemory>
-    requires { ArePolys (K.elements k.now) coeffs.now }
-    ensures { IfOk result (λ r.
-        AreCoordsList (K.elements k.now) s.now (length coeffs.now + 1) r.items) }
+    requires coeffs { ArePolys (K.elements k.now) coeffs.now }
+    requires weights { length s.now.weights ≡ s.now.e }
+    ensures coords { let F = K.elements k.now in
+        IfOk result (λ r. AreCoordsList F s.now (length coeffs.now + 1) r.items) }
+    ensures value { let F = K.elements k.now in
+        IfOk result (λ r. elements_in F s.now r.items ≡ monic_over F s.now coeffs.now) }
 {
     let mut items = Vec::new(alloc);
     for i in 0..coeffs.len() {
@@ -165,8 +167,13 @@ fn first_state<K: FiniteField<E = u32>>(
     s: &System,
     coeffs: &[Poly],
 ) -> Result<State, NoMemory>
-    requires { ArePolys (K.elements k.now) coeffs.now }
-    ensures { IfOk result (IsState (K.elements k.now) s.now (length coeffs.now + 1)) }
+    requires coeffs { ArePolys (K.elements k.now) coeffs.now }
+    requires weights { length s.now.weights ≡ s.now.e }
+    ensures state { IfOk result (IsState (K.elements k.now) s.now (length coeffs.now + 1)) }
+    ensures sum { let F = K.elements k.now in let T = ring_in F s.now in
+        IfOk result (λ r. element_in F s.now r.sum ≡ T.zero) }
+    ensures moved { let F = K.elements k.now in
+        IfOk result (λ r. elements_in F s.now r.moved ≡ monic_over F s.now coeffs.now) }
 {
     let items = monic(alloc, k, s, coeffs)?;
     let sum = PolyList {
@@ -185,9 +192,13 @@ pub fn start<K: FiniteField<E = u32>>(
     s: &System,
     coeffs: &[Poly],
 ) -> Result<Vec<State>, NoMemory>
-    requires { ArePolys (K.elements k.now) coeffs.now }
-    ensures { IfOk result (λ r.
-        AreStates (K.elements k.now) s.now (length coeffs.now + 1) r.items) }
+    requires coeffs { ArePolys (K.elements k.now) coeffs.now }
+    requires weights { length s.now.weights ≡ s.now.e }
+    ensures states { let F = K.elements k.now in
+        IfOk result (λ r. AreStates F s.now (length coeffs.now + 1) r.items) }
+    ensures value { let F = K.elements k.now in
+        IfOk result (λ r. states_in F s.now r.items ≡
+        start_of F.field (table_in F s.now) (monic_over F s.now coeffs.now)) }
 {
     let mut items = Vec::new(alloc);
     items.push(first_state(alloc, k, s, coeffs)?)?;
@@ -197,6 +208,7 @@ pub fn start<K: FiniteField<E = u32>>(
 /// Whether the polynomial of the state has the root 0.
 fn is_finished(state: &State) -> bool
     requires { 0 < length state.now.moved }
+    ensures { IsTrue result ↔ All (λ p. p ≡ []) (get_or state.now.moved 0 []) }
 {
     is_zero_each(state.moved.items[0].rows())
 }
@@ -211,7 +223,11 @@ pub fn finished<K: FiniteField<E = u32>>(
 ) -> Result<Vec<PolyList>, NoMemory>
     requires states { AreStates (K.elements k.now) s.now m states.now }
     requires some { 0 < m }
-    ensures { IfOk result (λ r. All (AreCoords (K.elements k.now) s.now) r.items) }
+    requires weights { length s.now.weights ≡ s.now.e }
+    ensures coords { IfOk result (λ r. All (AreCoords (K.elements k.now) s.now) r.items) }
+    ensures value { let F = K.elements k.now in MeetsRule F s.now →
+        IfOk result (λ r. elements_in F s.now r.items ≡
+        finished_of F.field (table_in F s.now) (states_in F s.now states.now)) }
 {
     let _field = k;
     let _system = s;

@@ -19,3 +19,5 @@ pub mod First
 pub mod Parts
 pub mod Answered
 pub mod Within
+-- Numbers that stand alone.
+pub mod Numbers

@@ -45,6 +45,23 @@ abbrev pub list_text : Mode → IsoList → List ℕ
 list_text mode list =
     heading (list_name mode) (length list.entries) ++ flat_map entry_text list.entries
 
+-- the line of the first entry, where there is one
+abbrev pub first_entry_text : List Entry → List ℕ
+first_entry_text [] = []
+first_entry_text (e ∷ es) = entry_text e
+
+-- a prime and two equations, as an input has them
+abbrev pub equation_lines : ℕ → (f g : List (List ℕ)) → List ℕ
+equation_lines p f g =
+    codes "p " ++ decimal p ++ codes "\nf " ++ poly_text f ++ codes "\ng " ++ poly_text g
+    ++ codes "\n"
+
+-- two equations, the number of the entries of their list, and the first entry
+abbrev pub made_text : ℕ → (f g : List (List ℕ)) → IsoList → List ℕ
+made_text p f g list =
+    equation_lines p f g ++ heading (codes "isomorphisms") (length list.entries)
+    ++ first_entry_text list.entries
+
 -- ---- Bases of orders
 
 abbrev pub elem_line : Elem → List ℕ

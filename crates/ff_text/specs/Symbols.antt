@@ -1,5 +1,6 @@
 -- What a byte means in the grammar.
 use Rattle.std.specs.Prelude.{ℕ, ◌-◌, ◌<◌, ◌==◌, ◌||◌, ◌&&◌, nat_le, Bool, List, map, if◌then◌else◌}
+use Rattle.std.specs.Prelude.{Option, Some, None}
 use Rattle.ff_text.specs.declared.symbol.Sign.TheVariants.{Plus, Minus}
 use Rattle.ff_text.specs.declared.symbol.Variable.TheVariants as variable
 use Rattle.ff_text.specs.declared.symbol.Symbol.{Symbol}
@@ -36,6 +37,11 @@ symbol_of b =
 
 abbrev pub symbols : List ℕ → List Symbol
 symbols bytes = map symbol_of bytes
+
+-- the digit that a symbol is
+abbrev pub digit_of : Symbol → Option ℕ
+digit_of (symbol.Digit d) = Some d
+digit_of _ = None
 
 abbrev pub IsDigitShort : Symbol → Type 0
 IsDigitShort (symbol.Digit d) = d < 10

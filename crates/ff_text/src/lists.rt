@@ -3,13 +3,17 @@ ghost use Rattle.std.specs.Prelude.{◌≡◌, codes, length, IfOk};
 ghost use Rattle.std.specs.List.{flat_map};
 ghost use Rattle.std.specs.String.{string_bytes};
 ghost use Rattle.ff_text.specs.Lists.{elem_text, elem_line, entry_text, list_name, list_text};
-ghost use Rattle.ff_text.specs.Lists.{HasList, order_text};
+ghost use Rattle.ff_text.specs.Lists.{HasList, order_text, first_entry_text, made_text};
+ghost use Rattle.ff_text.specs.Lists.{equation_lines, heading};
+ghost use Rattle.ff_prime.specs.Number.{number_of};
 
 use crate::layout::Mode;
 use crate::print::{denominator, is_one, polynomial};
 use ff_alg::NoMemory;
 use ff_data::{Entry, IsoList};
 use ff_elem::Elem;
+use ff_poly::Plane;
+use ff_prime::Prime;
 use std::alloc::Global;
 
 /// The text of an element.
@@ -90,6 +94,61 @@ pub fn print_list(alloc: Global, mode: Mode, list: &IsoList) -> Result<Vec<u8>, 
     let count = list.entries.items.len();
     let lines = entry_lines(alloc, &list.entries.items)?;
     let text = format!(in alloc; "{name}: {count}\n{lines}")?;
+    Ok(text.into_bytes())
+}
+
+// The line with the number of isomorphisms.
+fn count_line(alloc: Global, list: &IsoList) -> Result<String, NoMemory>
+    ensures { let count = length list.now.entries in
+        IfOk result (λ r. string_bytes r ≡ heading (codes "isomorphisms") count) }
+{
+    let count = list.entries.items.len();
+    Ok(format!(in alloc; "isomorphisms: {count}\n")?)
+}
+
+// The line of the first entry, and none where there is no entry.
+fn first_entry(alloc: Global, list: &IsoList) -> Result<String, NoMemory>
+    ensures { IfOk result (λ r. string_bytes r ≡ first_entry_text list.now.entries) }
+{
+    match list.entries.items.as_slice() {
+        [first, ..] => entry(alloc, first),
+        [] => Ok(String::new(alloc)),
+    }
+}
+
+// The lines of a prime field and two equations, in the form of an input.
+fn equation_lines(
+    alloc: Global,
+    k: &Prime,
+    first: &Plane,
+    second: &Plane,
+) -> Result<String, NoMemory>
+    ensures { IfOk result (λ r. string_bytes r ≡
+        equation_lines (number_of k.now) first.now second.now) }
+{
+    let p = k.number();
+    let f = polynomial(alloc, first.rows())?;
+    let g = polynomial(alloc, second.rows())?;
+    Ok(format!(in alloc; "p {p}\nf {f}\ng {g}\n")?)
+}
+
+/// The text of two equations over a prime field, in the form of an input, with a line of the number
+/// of entries of their isomorphism list, and the line of its first entry where there is one. The
+/// only error is out of memory.
+pub fn print_made(
+    alloc: Global,
+    k: &Prime,
+    first: &Plane,
+    second: &Plane,
+    list: &IsoList,
+) -> Result<Vec<u8>, NoMemory>
+    ensures { IfOk result (λ text. text.items ≡
+        made_text (number_of k.now) first.now second.now list.now) }
+{
+    let equations = equation_lines(alloc, k, first, second)?;
+    let count = count_line(alloc, list)?;
+    let entry = first_entry(alloc, list)?;
+    let text = format!(in alloc; "{equations}{count}{entry}")?;
     Ok(text.into_bytes())
 }
 

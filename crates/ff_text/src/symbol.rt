@@ -1,6 +1,6 @@
 // What a byte of the input means.
-ghost use Rattle.std.specs.Prelude.{◌≡◌};
-ghost use Rattle.ff_text.specs.Symbols.{symbol_of, IsDigitShort};
+ghost use Rattle.std.specs.Prelude.{◌≡◌, ◌<◌, IfSome};
+ghost use Rattle.ff_text.specs.Symbols.{symbol_of, digit_of, IsDigitShort};
 
 /// A sign before a term.
 #[derive(Clone, Copy)]
@@ -56,5 +56,16 @@ pub fn meaning(byte: u8) -> Symbol
         b'y' => Symbol::Variable(Variable::Y),
         b'p' | b'f' | b'g' | b'X' | b'Y' | b'U' | b'V' => Symbol::Letter(byte),
         _ => Symbol::Other,
+    }
+}
+
+/// The digit that the byte is.
+pub fn digit(byte: u8) -> Option<u32>
+    ensures value { result ≡ digit_of (symbol_of byte) }
+    ensures small { IfSome result (λ d. d < 10) }
+{
+    match meaning(byte) {
+        Symbol::Digit(digit) => Some(digit),
+        _ => None,
     }
 }

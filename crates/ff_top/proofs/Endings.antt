@@ -1,5 +1,5 @@
 -- The ends of a run.
-use Rattle.std.proofs.Common.{inl, inr, ℕ, List, Option, sym, subst}
+use Rattle.std.proofs.Common.{◌≡◌, ◌∙◌, inl, inr, ℕ, List, Option, sym, subst}
 use Rattle.std.specs.Io.KnownBytes.{Appends}
 use Rattle.ff_theory.specs.Ring.{Elements}
 use Rattle.ff_theory.specs.Lawful.{Lawful}
@@ -8,22 +8,21 @@ use Rattle.ff_text.specs.declared.fault.TextFault.TheVariants as fault
 use Rattle.ff_text.specs.declared.layout.Mode.{Mode}
 use Rattle.ff_text.specs.declared.layout.Mode.TheVariants as mode
 use Rattle.ff_text.specs.declared.job.Job.{Job}
+use Rattle.ff_text.specs.Refusals.{HasLine}
+use Rattle.ff_data.specs.declared.order.Refusal.{Refusal}
+use Rattle.ff_data.specs.declared.order.Refusal.TheVariants as refusal
+use Rattle.ff_data.specs.declared.pair.IsoList.{IsoList}
 use Rattle.ff_top.specs.declared.status.Status.{Status}
 use Rattle.ff_top.specs.declared.status.Status.TheVariants.{Done, BadInput, Premise, Limit}
 use Rattle.ff_top.specs.declared.status.Status.TheVariants.{ReadFault, WriteFault, NoMemory, Usage}
-use Rattle.ff_top.specs.Words.{IsCommand, HasCommand}
+use Rattle.ff_top.specs.declared.command.Command.{Command}
+use Rattle.ff_top.specs.declared.command.Command.TheVariants.{Read, Make}
 use Rattle.ff_top.specs.Input.{IsFaultOf, IsInputAnswer, status_of}
 use Rattle.ff_top.specs.Order.{IsOrderAnswer}
+use Rattle.ff_top.specs.Refusals.{status_of_refusal}
+use Rattle.ff_top.specs.Lists.{IsListAnswer}
 use Rattle.ff_top.specs.Commands.{Judges}
-use Rattle.ff_top.specs.Run.{Ends, IsReadAnswer, Writes}
-
--- where the words are neither `check` nor `order`, they are no command
-pub no_command : (words : List (List ℕ)) → ¬ IsCommand words mode.Check
-    → ¬ IsCommand words mode.Order → ¬ HasCommand words
-no_command words h k (mode.Check, c) = h c
-no_command words h k (mode.Order, c) = k c
-no_command words h k (mode.Iso, c) = c
-no_command words h k (mode.Aut, c) = c
+use Rattle.ff_top.specs.Run.{Ends, IsAnswerOf, IsReadAnswer, Writes}
 
 -- a status that stands with a text of its own
 abbrev pub HasText : Status → Type 0
@@ -53,14 +52,31 @@ order_is_of_input : {F : Elements ℕ} (L : Lawful F) (f : List (List ℕ)) (sta
 order_is_of_input L f status text (inl h) = subst (λ s. IsOfInput s) (sym h.status_is) tt
 order_is_of_input L f status text (inr h) = subst (λ s. IsOfInput s) (sym h.status_is) tt
 
+refusal_is_of_input : (r : Refusal) → HasLine r → IsOfInput (status_of_refusal r)
+refusal_is_of_input (refusal.Inseparable w) h = tt
+refusal_is_of_input (refusal.Reducible w g h) l = tt
+refusal_is_of_input (refusal.NoRationalPlace finite infinite) h = tt
+refusal_is_of_input refusal.PoleLimit h = tt
+refusal_is_of_input (refusal.SmallGenus s) h = tt
+refusal_is_of_input refusal.NoMemory h = absurd h
+
+list_is_of_input : {F : Elements ℕ} (L : Lawful F) (f g : List (List ℕ))
+    (print : IsoList → List ℕ) (status : Status) (text : List ℕ)
+    → IsListAnswer L f g print status text → IsOfInput status
+list_is_of_input L f g print status text (inl h) = subst (λ s. IsOfInput s) (sym h.status_is) tt
+list_is_of_input L f g print status text (inr h) =
+    subst (λ s. IsOfInput s) (sym h.status_is) (refusal_is_of_input h.found h.has_line)
+
 judged_is_of_input : (mode : Mode) (job : Job) (before after : ℕ) (status : Status)
     (text : List ℕ) → Judges mode job before after status text → IsOfInput status
 judged_is_of_input mode.Check job before after status text h =
     subst (λ s. IsOfInput s) (sym h.status_is) tt
 judged_is_of_input mode.Order job before after status text h =
     order_is_of_input _ job.first status text h.answered.answer
-judged_is_of_input mode.Iso job before after status text h = absurd h
-judged_is_of_input mode.Aut job before after status text h = absurd h
+judged_is_of_input mode.Iso job before after status text h =
+    list_is_of_input _ job.first job.second _ status text h.listed.answer
+judged_is_of_input mode.Aut job before after status text h =
+    list_is_of_input _ job.first job.second _ status text h.listed.answer
 
 answer_is_of_input : (mode : Mode) (bytes : List ℕ) (before after : ℕ) (status : Status)
     (text : List ℕ) → IsInputAnswer mode (Judges mode) bytes before after status text
@@ -111,3 +127,43 @@ module _ (mode : Mode) (old new : Option (List ℕ)) (rose : Type 0) (before aft
   read_answer_has_text (inl a) = subst (λ s. HasText s) (sym a.status_is) tt
   read_answer_has_text (inr a) =
       of_input_has_text status (answer_is_of_input mode a.bytes before after status text a.answer)
+
+pub answer_has_text : (command : Command) (old new : Option (List ℕ)) (rose : Type 0)
+    (before after : ℕ) (status : Status) (text : List ℕ)
+    → IsAnswerOf command old new rose before after status text → HasText status
+answer_has_text (Read m) old new rose before after status text h =
+    read_answer_has_text m old new rose before after status text h
+answer_has_text (Make n) old new rose before after status text h =
+    let made = h.made in of_input_has_text status
+    (list_is_of_input _ made.first made.second _ status text made.listed.answer)
+
+-- a run with an answer is not lost
+pub not_lost : (status : Status) (text : List ℕ) (old new : Option (List ℕ)) (result : Status)
+    → HasText status → Ends status text old new result → ¬ (result ≡ NoMemory)
+not_lost status text old new result k (inl (e, a)) h = subst (λ s. HasText s) (sym e ∙ h) k
+not_lost status text old new result k (inr (e, a)) h = absurd (write_fault_apart (sym e ∙ h))
+  where
+    write_fault_apart : ¬ (WriteFault ≡ NoMemory)
+    write_fault_apart d = cc
+
+-- a run that ends with a read fault has an answer of that status
+pub is_read_fault : (status : Status) (text : List ℕ) (old new : Option (List ℕ))
+    (result : Status) → Ends status text old new result → result ≡ ReadFault
+    → status ≡ ReadFault
+is_read_fault status text old new result (inl (e, a)) h = sym e ∙ h
+is_read_fault status text old new result (inr (e, a)) h = absurd (faults_apart (sym e ∙ h))
+  where
+    faults_apart : ¬ (WriteFault ≡ ReadFault)
+    faults_apart d = cc
+
+-- an answer with a read fault has its cause
+pub fault_cause : (command : Command) (old new : Option (List ℕ)) (rose : Type 0)
+    (before after : ℕ) (status : Status) (text : List ℕ)
+    → IsAnswerOf command old new rose before after status text → status ≡ ReadFault → rose
+fault_cause (Read m) old new rose before after status text (inl a) e = a.cause
+fault_cause (Read m) old new rose before after status text (inr a) e =
+    absurd (subst (λ s. IsOfInput s) e
+    (answer_is_of_input m a.bytes before after status text a.answer))
+fault_cause (Make n) old new rose before after status text h e =
+    let made = h.made in absurd (subst (λ s. IsOfInput s) e
+    (list_is_of_input _ made.first made.second _ status text made.listed.answer))

@@ -6,4 +6,6 @@ pub mod Faults
 pub mod Laws
 pub mod Verdicts
 pub mod Orders
+pub mod Lists
+pub mod Commands
 pub mod Endings

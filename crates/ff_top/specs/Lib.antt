@@ -5,5 +5,7 @@ pub mod Exits
 pub mod Input
 pub mod Check
 pub mod Order
+pub mod Refusals
+pub mod Lists
 pub mod Commands
 pub mod Run

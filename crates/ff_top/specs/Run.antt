@@ -1,14 +1,17 @@
 -- What a run reads, answers and writes.
-use Rattle.std.specs.Prelude.{◌≡◌, ◌+◌, ◌<◌, ◌⊎◌, ℕ, List, length, Option}
+use Rattle.std.specs.Prelude.{◌≡◌, ◌+◌, ◌<◌, ◌≤◌, ◌⊎◌, ℕ, List, length, Option}
 use Rattle.std.specs.Io.KnownBytes.{Appends, IsAtEnd}
 use Rattle.ff_io.specs.Bytes.{AppendsProperPrefix, TakesSome, TakesUpTo}
 use Rattle.ff_text.specs.declared.job.TheConstants.{MAX_BYTES}
 use Rattle.ff_text.specs.declared.layout.Mode.{Mode}
 use Rattle.ff_top.specs.declared.status.Status.{Status}
 use Rattle.ff_top.specs.declared.status.Status.TheVariants.{ReadFault, WriteFault, NoMemory, Usage}
+use Rattle.ff_top.specs.declared.command.Command.{Command}
+use Rattle.ff_top.specs.declared.command.Command.TheVariants.{Read, Make}
 use Rattle.ff_top.specs.Words.{IsCommand, HasCommand, usage_text, read_fault_text}
 use Rattle.ff_top.specs.Input.{IsInputAnswer}
 use Rattle.ff_top.specs.Commands.{Judges}
+use Rattle.ff_top.specs.Lists.{IsMade}
 
 -- the most bytes that a run takes from its source
 abbrev pub read_limit : ℕ
@@ -49,12 +52,27 @@ IsReadAnswer mode old new rose before after status text =
     AnswersReadFault old new rose before after status text
     ⊎ AnswersBytes mode old new before after status text
 
+-- nothing was read, and this is the answer for the equations of the number
+pub record AnswersMake (n : ℕ) (old new : Option (List ℕ))
+    (before after : ℕ) (status : Status) (text : List ℕ) : Type 0 where
+  pub unread : new ≡ old
+  pub later : before ≤ after
+  pub made : IsMade n status text
+
+-- an answer of the command
+abbrev pub IsAnswerOf : Command → Option (List ℕ) → Option (List ℕ) → Type 0
+    → ℕ → ℕ → Status → List ℕ → Type 0
+IsAnswerOf (Read m) old new rose before after status text =
+    IsReadAnswer m old new rose before after status text
+IsAnswerOf (Make n) old new rose before after status text =
+    AnswersMake n old new before after status text
+
 -- the words are a command, and this is an answer of it
 pub record AnswersCommand (words : List (List ℕ)) (old new : Option (List ℕ)) (rose : Type 0)
     (before after : ℕ) (status : Status) (text : List ℕ) : Type 0 where
-  pub mode : Mode
-  pub command : IsCommand words mode
-  pub answer : IsReadAnswer mode old new rose before after status text
+  pub command : Command
+  pub is_command : IsCommand words command
+  pub answer : IsAnswerOf command old new rose before after status text
 
 -- what a run of these words may answer: the counter `tests` before and after, a status and a text
 abbrev pub IsAnswer : List (List ℕ) → Option (List ℕ) → Option (List ℕ) → Type 0

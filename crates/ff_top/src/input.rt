@@ -1,13 +1,13 @@
 // The answer to the bytes of an input.
 ghost use Rattle.std.specs.Prelude.{◌≡◌, ◌≢◌, IfOk};
 ghost use Rattle.ff_text.specs.Printed.{fault_text, HasText};
-ghost use Rattle.ff_top.specs.Commands.{Judges, mode_of};
-ghost use Rattle.ff_top.specs.Input.{IsInputAnswer, RisesOnceAtMost, status_of};
+ghost use Rattle.ff_top.specs.Commands.{Judges, NodesFor, TestsFor};
+ghost use Rattle.ff_top.specs.Input.{IsInputAnswer, status_of};
 
 use crate::Status;
-use crate::command::Command;
+use crate::command::judge;
 use ff_alg::{NoMemory, Steps};
-use ff_text::{MAX_BYTES, TextFault, print_fault, read_input};
+use ff_text::{MAX_BYTES, Mode, TextFault, print_fault, read_input};
 use std::alloc::Global;
 use std::sync::ledger::Ledger;
 
@@ -18,20 +18,21 @@ pub struct Answer {
     pub text: Vec<u8>,
 }
 
-/// The answer of a command to the bytes that were read, `MAX_BYTES` and one where there are more.
+/// The answer in a mode to the bytes that were read, `MAX_BYTES` and one where there are more.
 ///
-/// A verdict of `check` ticks `tests` once, and no other answer ticks it. `NoMemory` is the only
-/// error.
-pub fn answer_of<L: Ledger>(
+/// A verdict of `check` ticks `tests` once, the lists of `iso` and `aut` may tick both counters,
+/// and no other answer ticks one. `NoMemory` is the only error.
+pub fn answer_of<L: Ledger, M: Ledger>(
     alloc: Global,
-    command: Command,
+    mode: Mode,
     bytes: &[u8],
     tests: &mut Steps<L>,
+    nodes: &mut Steps<M>,
 ) -> Result<Answer, NoMemory>
-    ensures answer { let mode = mode_of command in
-        let answers = IsInputAnswer mode (Judges mode) bytes.now in
+    ensures answer { let answers = IsInputAnswer mode (Judges mode) bytes.now in
         IfOk result (λ a. answers tests.old tests.new a.status a.text.items) }
-    ensures tests { RisesOnceAtMost tests.old tests.new }
+    ensures tests { TestsFor mode tests.old tests.new }
+    ensures nodes { NodesFor mode nodes.old nodes.new }
 {
     if bytes.len() > MAX_BYTES {
         let text = "limit: input longer than 65536 bytes\n"
@@ -42,8 +43,8 @@ pub fn answer_of<L: Ledger>(
             text,
         });
     }
-    match read_input(alloc, bytes, command.mode()) {
-        Ok(job) => command.judge(alloc, &job, tests),
+    match read_input(alloc, bytes, mode) {
+        Ok(job) => judge(alloc, mode, &job, tests, nodes),
         Err(fault) => refuse(alloc, &fault),
     }
 }

@@ -4,7 +4,9 @@
 mod check;
 mod command;
 mod input;
+mod list;
 mod order;
+mod refusal;
 mod status;
 mod top;
 mod word;

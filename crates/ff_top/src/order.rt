@@ -2,12 +2,12 @@
 ghost use Rattle.std.specs.Prelude.{◌≡◌, IfOk};
 ghost use Rattle.ff_data.specs.Orders.{IsSep};
 ghost use Rattle.ff_text.specs.Lists.{order_text};
-ghost use Rattle.ff_text.specs.Refusals.{HasLine, refusal_text};
 ghost use Rattle.ff_text.specs.Values.{HasEquations};
 ghost use Rattle.ff_top.specs.Order.{IsAnswered, IsListOf, IsOrderAnswer, IsOrderText};
 
 use crate::Status;
 use crate::input::Answer;
+use crate::refusal::refuse;
 use ff_alg::{NoMemory, Ring};
 use ff_basis::order_basis;
 use ff_data::{Chart, Refusal, Sep};
@@ -15,7 +15,7 @@ use ff_elem::{Alg, Elem};
 use ff_order::maximal;
 use ff_prime::Prime;
 use ff_sep::{SepFault, separate};
-use ff_text::{Job, print_order, print_refusal};
+use ff_text::{Job, print_order};
 use std::alloc::Global;
 
 /// The lists of both maximal orders of the equation of a job (Stichtenoth, *Algebraic Function
@@ -74,17 +74,4 @@ fn list_of(alloc: Global, alg: &Alg<Prime>, sep: &Sep, chart: Chart) -> Result<V
 {
     let order = maximal(alloc, alg, sep, chart)?;
     order_basis(alloc, alg, &order)
-}
-
-// The answer that a refusal is.
-fn refuse(alloc: Global, refusal: &Refusal) -> Result<Answer, NoMemory>
-    requires { HasLine refusal.now }
-    ensures status { IfOk result (λ a. a.status ≡ Status.Premise) }
-    ensures text { IfOk result (λ a. a.text.items ≡ refusal_text refusal.now) }
-{
-    let text = print_refusal(alloc, refusal)?;
-    Ok(Answer {
-        status: Status::Premise,
-        text,
-    })
 }

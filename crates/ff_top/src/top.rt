@@ -2,26 +2,26 @@
 ghost use Rattle.std.specs.Prelude.{◌≡◌, ◌≢◌, ◌≤◌, ◌⊎◌, map, IfOk, OnErr};
 ghost use Rattle.ff_io.specs.Bytes.{TakesSome};
 ghost use Rattle.ff_io.specs.Causes.{Rose};
-ghost use Rattle.ff_top.specs.Commands.{mode_of};
-ghost use Rattle.ff_top.specs.Input.{RisesOnceAtMost};
-ghost use Rattle.ff_top.specs.Words.{HasCommand};
-ghost use Rattle.ff_top.specs.Run.{Ends, IsAnswer, IsReadAnswer, Writes, read_limit};
+ghost use Rattle.ff_top.specs.Commands.{Counts, IsReading, NodesFor, NodesOf, TestsFor, TestsOf};
+ghost use Rattle.ff_top.specs.Words.{HasCommand, ReadsSource};
+ghost use Rattle.ff_top.specs.Run.{Ends, IsAnswer, IsAnswerOf, IsReadAnswer, Writes, read_limit};
 
 use crate::command::Command;
 use crate::input::{Answer, answer_of};
-use crate::{Status, Word};
+use crate::{Status, Word, list};
 use ff_alg::{NoMemory, Steps};
 use ff_io::{Failed, ReadStop, Sink, Source, read_up_to, write_all};
-use ff_text::MAX_BYTES;
+use ff_text::{MAX_BYTES, Mode};
 use std::alloc::Global;
 use std::sync::ledger::Ledger;
 
 /// Does all that the program does: reads the words, then the source where the command asks for it,
 /// computes the whole text of the answer, writes it to the sink and answers the status.
 ///
-/// The command is one word, `check` or `order`. Other words are answered by the usage text, with
-/// nothing read. `tests` is ticked once for a verdict of `check`, written or not, and for no other
-/// answer. Where the answer is `NoMemory`, nothing was written.
+/// The command is one word, `iso`, `aut`, `check` or `order`, or `make` and a number, with which
+/// nothing is read. Other words are answered by the usage text, with nothing read. `tests` is
+/// ticked once for a verdict of `check`, written or not; the commands that form a list may tick
+/// both counters, and nothing else does. Where the answer is `NoMemory`, nothing was written.
 pub fn run<S: Source, T: Sink, L: Ledger, M: Ledger>(
     alloc: Global,
     words: &[Word],
@@ -37,12 +37,12 @@ pub fn run<S: Source, T: Sink, L: Ledger, M: Ledger>(
         Writes (answers tests.old tests.new) (T.written sink.old) (T.written sink.new) result }
     ensures lost { let taken = TakesSome read_limit (S.left source.old) (S.left source.new) in
         result ≡ Status.NoMemory → taken }
-    ensures tests { RisesOnceAtMost tests.old tests.new }
-    ensures nodes { nodes.new ≡ nodes.old }
+    ensures tests { Counts TestsOf (map (λ w. w.text) words.now) tests.old tests.new }
+    ensures nodes { Counts NodesOf (map (λ w. w.text) words.now) nodes.old nodes.new }
 
-    // Words that are no command are answered without reading and without memory.
+    // Only a command that asks for it reads, and words that are none are answered without memory.
     ensures unread { let words = map (λ w. w.text) words.now in
-        ¬ HasCommand words → source.new ≡ source.old }
+        ¬ ReadsSource words → source.new ≡ source.old }
     ensures usage { let words = map (λ w. w.text) words.now in
         ¬ HasCommand words → (result ≡ Status.Usage) ⊎ (result ≡ Status.WriteFault) }
 
@@ -59,29 +59,54 @@ pub fn run<S: Source, T: Sink, L: Ledger, M: Ledger>(
             let usage = "usage: iso | aut | check | order | make N\n".as_bytes();
             write_text(sink, Status::Usage, usage)
         }
-        Some(command) => match answer_to(alloc, command, source, tests) {
+        Some(command) => match answer_to(alloc, command, source, tests, nodes) {
             Ok(answer) => write_text(sink, answer.status, &answer.text),
             Err(NoMemory) => Status::NoMemory,
         },
     }
 }
 
-// Reads the source, and computes the answer of a command to what it gave.
-fn answer_to<S: Source, L: Ledger>(
+// Computes the answer of a command, which reads the source where it asks for it.
+fn answer_to<S: Source, L: Ledger, M: Ledger>(
     alloc: Global,
     command: Command,
     source: &mut S,
     tests: &mut Steps<L>,
+    nodes: &mut Steps<M>,
 ) -> Result<Answer, NoMemory>
     ensures later { S.faults source.old ≤ S.faults source.new }
     ensures answer { let rose = Rose (S.faults source.old) (S.faults source.new) in
-        let answers = IsReadAnswer (mode_of command) (S.left source.old) (S.left source.new) rose in
+        let answers = IsAnswerOf command (S.left source.old) (S.left source.new) rose in
         IfOk result (λ a. answers tests.old tests.new a.status a.text.items) }
     ensures lost { OnErr result (TakesSome read_limit (S.left source.old) (S.left source.new)) }
-    ensures tests { RisesOnceAtMost tests.old tests.new }
+    ensures unread { ¬ IsReading command → source.new ≡ source.old }
+    ensures tests { TestsOf command tests.old tests.new }
+    ensures nodes { NodesOf command nodes.old nodes.new }
+{
+    match command {
+        Command::Read(mode) => read_answer(alloc, mode, source, tests, nodes),
+        Command::Make(number) => list::make(alloc, number, tests, nodes),
+    }
+}
+
+// Reads the source, and computes the answer in a mode to what it gave.
+fn read_answer<S: Source, L: Ledger, M: Ledger>(
+    alloc: Global,
+    mode: Mode,
+    source: &mut S,
+    tests: &mut Steps<L>,
+    nodes: &mut Steps<M>,
+) -> Result<Answer, NoMemory>
+    ensures later { S.faults source.old ≤ S.faults source.new }
+    ensures answer { let rose = Rose (S.faults source.old) (S.faults source.new) in
+        let answers = IsReadAnswer mode (S.left source.old) (S.left source.new) rose in
+        IfOk result (λ a. answers tests.old tests.new a.status a.text.items) }
+    ensures lost { OnErr result (TakesSome read_limit (S.left source.old) (S.left source.new)) }
+    ensures tests { TestsFor mode tests.old tests.new }
+    ensures nodes { NodesFor mode nodes.old nodes.new }
 {
     match read_up_to(alloc, source, MAX_BYTES + 1) {
-        Ok(bytes) => answer_of(alloc, command, &bytes, tests),
+        Ok(bytes) => answer_of(alloc, mode, &bytes, tests, nodes),
         Err(ReadStop::Fault) => {
             let text = "read fault\n".as_bytes().to_vec(alloc)?;
             Ok(Answer {

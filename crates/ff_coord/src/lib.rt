@@ -1,0 +1,6 @@
+//! Elements by coordinates in a pole system.
+#![tactic(auto)]
+
+mod expression;
+
+pub use expression::express;

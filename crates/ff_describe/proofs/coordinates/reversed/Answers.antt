@@ -1,0 +1,36 @@
+use Rattle.std.proofs.Common.{◌≡◌, ◌-◌, ◌<◌, sym, ◌∙◌, ap, arith, subst, All, get_or, length}
+use Rattle.std.proofs.lemmas.List.Elements.{All-push}
+use Rattle.ff_theory.specs.Ring.{IsElement}
+use Rattle.ff_theory.specs.Vector.{vector_of}
+use Rattle.ff_theory.proofs.Coeffs.{coeff-push}
+use Rattle.ff_lin.proofs.Entries.{entry}
+use Rattle.ff_describe.proofs.coordinates.reversed.Goals as goal
+
+pub loop-a-preserved : goal.loop-a-preserved
+loop-a-preserved g c =
+    let F = g.K.Ring.elements c.args.k.now in
+    let e = c.in_ok-push.ensures.items in
+    let old = c.loop-a.list.items in
+    let row = c.args.row.now in
+    let at = c.args.n - 1 - c.loop-a.a in
+    let below : at < length row = omega (arith, c.loop-a-test.true, c.requires.room) in
+    record {
+      len = omega (arith, c.in_ok-push.ensures.len, c.loop-a.invariant.len);
+      each = subst (All (IsElement F)) (sym e)
+          (All-push (IsElement F) old (get_or row at 0) c.loop-a.invariant.each
+          (c.requires.row at 0 below));
+      value = λ j l. ap (λ p. vector_of F p j) e
+          ∙ coeff-push F.ring F.value old (get_or row at 0)
+          (λ a. vector_of F row (c.args.n - 1 - a)) c.loop-a.a
+          c.loop-a.invariant.len c.loop-a.invariant.value (sym (entry F row at below)) j l;
+    }
+
+pub returns-clause-vector : goal.returns-clause-vector
+returns-clause-vector g c = record {
+  each = c.loop-a.invariant.each;
+  len = omega (arith, c.loop-a.invariant.len, c.loop-a-test.false, c.loop-a.auto.a-end);
+}
+
+pub returns-clause-value : goal.returns-clause-value
+returns-clause-value g c a l = c.loop-a.invariant.value a
+    (omega (arith, l, c.loop-a-test.false))

@@ -1,0 +1,22 @@
+use Rattle.std.proofs.Common.{◌≡◌, ◌/◌, ap, subst, IfSome}
+use Rattle.ff_theory.proofs.Results.{ok_map}
+use Rattle.ff_elem.specs.Elem.{elem_of, y_in}
+use Rattle.ff_data.specs.Systems.{IsExpression}
+use Rattle.ff_describe.specs.Described.{frame_of}
+use Rattle.ff_describe.proofs.systems.express_y.Goals as goal
+
+pub express_by_steps-requires : goal.express_by_steps-requires
+express_by_steps-requires g c = record {
+  functions = c.requires.functions;
+  w = c.in_ok-y.ensures.element;
+}
+
+pub returns : goal.returns
+returns g c =
+    let L = g.K.Ring.lawful c.args.alg.now.k in
+    let f = c.args.alg.now.f in
+    let functions = c.args.functions.now in
+    let limit = c.args.limit in
+    ok_map _ _ c.express_by_steps.result (λ o h. subst (λ w. IfSome o (IsExpression L f
+    (frame_of functions) w (limit / functions.e) limit)) c.in_ok-y.ensures.value h)
+    c.express_by_steps.ensures

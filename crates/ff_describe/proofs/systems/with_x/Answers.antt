@@ -1,0 +1,18 @@
+use Rattle.std.proofs.Common.{◌/◌, subst, IfSome}
+use Rattle.ff_elem.specs.Elem.{y_in}
+use Rattle.ff_data.specs.Systems.{IsExpression}
+use Rattle.ff_describe.specs.Described.{frame_of}
+use Rattle.ff_describe.proofs.systems.with_x.Goals as goal
+
+pub with_coords-requires : goal.with_coords-requires
+with_coords-requires g c =
+    let L = g.K.Ring.lawful c.args.alg.now.k in
+    let f = c.args.alg.now.f in
+    let functions = c.args.functions.now in
+    let limit = c.args.limit in
+    record {
+      functions = c.requires.functions;
+      x = c.requires.x;
+      y = subst (λ o. IfSome o (IsExpression L f (frame_of functions) (y_in L f)
+          (limit / functions.e) limit)) c.in-Some.is c.in_ok-express_y.ensures;
+    }

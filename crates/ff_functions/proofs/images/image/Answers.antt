@@ -1,0 +1,28 @@
+use Rattle.std.proofs.Common.{sym, subst}
+use Rattle.ff_common.specs.Common.{AreRowsWithin}
+use Rattle.ff_common.proofs.ReversedImages.{by_length}
+use Rattle.ff_data.specs.Orders.{y_degree}
+use Rattle.ff_functions.proofs.images.image.Goals as goal
+
+pub quotient_rows-requires : goal.quotient_rows-requires
+quotient_rows-requires g c =
+    let F = g.K.Ring.elements c.args.alg.now.k in
+    let L = g.K.Ring.lawful c.args.alg.now.k in
+    let by = c.in_ok-by in
+    record {
+      slope = c.requires.slope;
+      by = by.ensures.poly;
+      nonzero = by_length F L c.args.d.now c.requires.d c.requires.nonzero by.by by.ensures.poly
+          by.ensures.value;
+      vector = c.requires.vector;
+    }
+
+pub reversed_vector-requires : goal.reversed_vector-requires
+reversed_vector-requires g c =
+    let F = g.K.Ring.elements c.args.alg.now.k in
+    let L = g.K.Ring.lawful c.args.alg.now.k in
+    record {
+      rows = subst (AreRowsWithin F (y_degree L c.args.alg.now.f)) (sym c.deref.ensures.value)
+          c.in_ok-quotients.ensures.rows;
+      positive = c.requires.positive;
+    }

@@ -1,0 +1,54 @@
+use Rattle.std.proofs.Common.{◌≡◌, ◌+◌, ◌-◌, ◌≤◌, ℕ, pred, length, subst, arith, IfSome}
+use Rattle.ff_theory.specs.Vector.{IsVector}
+use Rattle.ff_functions.specs.Searches.{AreRows, HasTrailForm}
+use Rattle.ff_functions.proofs.SearchLemmas.{rows_more, numbers_more}
+use Rattle.ff_functions.proofs.search.Search.with_image.Goals as goal
+
+pub insert-requires : goal.insert-requires
+insert-requires g c =
+    let F = g.K.Ring.elements c.args.alg.now.k in
+    let len = length c.args.image.items in
+    let rows = c.args.self.echelon.rows.items in
+    let o = c.requires.origin in
+    record {
+      rows = rows_more F len (c.args.c + pred c.args.j) (length c.args.origin.items)
+          (omega (arith, o.len, c.requires.positive)) rows c.requires.form.rows;
+      v = c.requires.image;
+      c = o.each;
+    }
+
+pub with_relation-requires : goal.with_relation-requires
+with_relation-requires g c =
+    let F = g.K.Ring.elements c.args.alg.now.k in
+    let j = c.args.j in
+    let numbers = c.args.self.numbers.items in
+    record {
+      numbers = numbers_more F c.args.c (pred j) j (omega arith) numbers c.requires.form.numbers;
+      positive = c.requires.positive;
+      relation = subst (λ n. IfSome c.in_ok-echelon.relation (λ r. IsVector F n r.items))
+          c.requires.origin.len c.in_ok-echelon.ensures.relation;
+    }
+
+pub noted-requires : goal.noted-requires
+noted-requires g c =
+    let L = g.K.Ring.lawful c.args.alg.now.k in
+    let j = c.args.j in
+    let e : pred j ≡ j - 1 = omega arith in
+    record {
+      form = subst (λ m. HasTrailForm L c.args.alg.now.f c.args.order.now j m c.args.self.trail) e
+          c.requires.form.trail;
+    }
+
+pub returns : goal.returns
+returns g c =
+    let F = g.K.Ring.elements c.args.alg.now.k in
+    let L = g.K.Ring.lawful c.args.alg.now.k in
+    let j = c.args.j in
+    let e : j - 1 + 1 ≡ j = omega (arith, c.requires.positive) in
+    record {
+      rows = subst (λ m. AreRows F (length c.args.image.items) m
+          c.in_ok-echelon.echelon.rows.items) c.requires.origin.len c.in_ok-echelon.ensures.rows;
+      trail = subst (λ m. HasTrailForm L c.args.alg.now.f c.args.order.now j m
+          c.in_ok-trail.trail) e c.in_ok-trail.ensures;
+      numbers = c.in_ok-numbers.ensures;
+    }

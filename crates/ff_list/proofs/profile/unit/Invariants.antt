@@ -1,0 +1,5 @@
+use Rattle.ff_theory.specs.Vector.{IsVector}
+use Rattle.ff_list.proofs.profile.unit.Given as goal
+
+abbrev pub invariant-loop-j : goal.invariant-loop-j
+invariant-loop-j g l = IsVector (g.K.Ring.elements l.k) l.j l.vector.items

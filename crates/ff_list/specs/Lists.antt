@@ -1,0 +1,81 @@
+-- Lists of isomorphisms of two equations f and g over a field whose laws are L, and why there is
+-- none.
+use Rattle.std.specs.Prelude.{◌≡◌, ℕ, ◌+◌, ◌<◌, ◌≤◌, ◌⊎◌, List, length}
+use Rattle.std.specs.declared.cmp.Ordering.TheVariants.{Less}
+use Rattle.std.specs.List.{All}
+use Rattle.ff_theory.specs.Ring.{Elements}
+use Rattle.ff_theory.specs.Lawful.{Lawful}
+use Rattle.ff_elem.specs.Key.{key_cmp}
+use Rattle.ff_data.specs.declared.order.Chart.TheVariants.{Finite, Infinite}
+use Rattle.ff_data.specs.declared.order.Order.{Order}
+use Rattle.ff_data.specs.declared.order.Refusal.{Refusal}
+use Rattle.ff_data.specs.declared.order.Refusal.TheVariants as refusal
+use Rattle.ff_data.specs.declared.pair.Entry.{Entry}
+use Rattle.ff_data.specs.declared.system.System.{System}
+use Rattle.ff_data.specs.Lists.{IsEntry, key_at}
+use Rattle.ff_data.specs.Orders.{IsMaximal, IsSeparable}
+use Rattle.ff_data.specs.Systems.{gaps_of}
+use Rattle.ff_sep.specs.declared.separability.SepFault.TheVariants as fault
+use Rattle.ff_sep.specs.Faults.{IsCause}
+use Rattle.ff_const.specs.Fixed.{AreOrderedFactors}
+use Rattle.ff_const.specs.Irreducible.{AreStrictFactors, IsIrreducible}
+
+-- ---- One equation
+
+module _ {F : Elements ℕ} (L : Lawful F) (f : List (List ℕ)) where
+  -- f is separable in y, and irreducible over k(x)
+  pub record IsAdmitted : Type 0 where
+    pub separable : IsSeparable L f
+    pub irreducible : IsIrreducible L f
+
+  -- f is separable in y, and these are coprime factors of it, the one with the lesser key first
+  pub record AreSplitFactors (g h : List (List ℕ)) : Type 0 where
+    pub separable : IsSeparable L f
+    pub factors : AreOrderedFactors L f g h
+    pub strict : AreStrictFactors F g h
+
+  -- the factors with which a reducible f is refused: where f is not separable in y, the first one
+  -- divides the derivative, which is not 0
+  abbrev pub AreFactors : (g h : List (List ℕ)) → Type 0
+  AreFactors g h = IsCause L f (fault.Square g h) ⊎ AreSplitFactors g h
+
+  -- both maximal orders of f
+  pub record AreBothOrders (finite infinite : Order) : Type 0 where
+    pub finite_is : IsMaximal L f finite
+    pub finite_chart : finite.chart ≡ Finite
+    pub infinite_is : IsMaximal L f infinite
+    pub infinite_chart : infinite.chart ≡ Infinite
+
+-- a system of e functions whose gap number is 0 or 1
+pub record IsSmall (s : System) : Type 0 where
+  pub positive : 0 < s.e
+  pub small : gaps_of s.e s.weights ≤ 1
+
+-- ---- Two equations
+
+module _ {F : Elements ℕ} (L : Lawful F) (f g : List (List ℕ)) where
+  -- both are admitted
+  pub record AreAdmitted : Type 0 where
+    pub first : IsAdmitted L f
+    pub second : IsAdmitted L g
+
+  -- each entry is a pair of E(g) that satisfies f, with its inverse pair, and the keys of the pairs
+  -- rise strictly
+  pub record IsTrueList (entries : List Entry) : Type 0 where
+    pub each : All (IsEntry L f g) entries
+    pub rising : (i : ℕ) (d : Entry) → i + 1 < length entries
+        → key_cmp (key_at F entries i d) (key_at F entries (i + 1) d) ≡ Less
+
+  -- P holds for the first of f and g that is not admitted, which is number w
+  abbrev pub HoldsOfFirst : (List (List ℕ) → Type 0) → ℕ → Type 0
+  HoldsOfFirst P w = ((w ≡ 1) × P f) ⊎ ((w ≡ 2) × IsAdmitted L f × P g)
+
+  -- why there is no list
+  abbrev pub IsRefused : Refusal → Type 0
+  IsRefused (refusal.Inseparable w) = HoldsOfFirst (λ h. IsCause L h fault.Inseparable) w
+  IsRefused (refusal.Reducible w a b) = HoldsOfFirst (λ h. AreFactors L h a b) w
+  IsRefused (refusal.NoRationalPlace finite infinite) =
+      AreAdmitted × AreBothOrders L f finite infinite
+  IsRefused refusal.PoleLimit = AreAdmitted
+  IsRefused (refusal.SmallGenus s) = AreAdmitted × IsSmall s
+  IsRefused refusal.NoMemory = Unit {0}

@@ -1,0 +1,15 @@
+//! The isomorphism list of two equations: the search for the isomorphisms of their function fields
+//! by the pole systems of their points.
+#![tactic(auto)]
+
+mod choice;
+mod curve;
+mod entry;
+mod isomorphisms;
+mod places;
+mod profile;
+mod search;
+mod starts;
+
+pub use isomorphisms::isos;
+pub use starts::{KeptParts, kept};

@@ -1,0 +1,2 @@
+-- Weights, images and candidates
+pub mod CandidateLemmas

@@ -1,0 +1,7 @@
+use Rattle.ff_points.proofs.all.points.Goals as goal
+
+pub returns-clause-form : goal.returns-clause-form
+returns-clause-form g c i d l = (c.in_ok-items.ensures i d l).form
+
+pub returns-clause-sound : goal.returns-clause-sound
+returns-clause-sound g c closed i d l = (c.in_ok-items.ensures i d l).sound closed

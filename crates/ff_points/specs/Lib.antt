@@ -1,0 +1,2 @@
+-- Points of an order that is closed under products
+pub mod PointLists

@@ -1,0 +1,2 @@
+-- Tables of described systems
+pub mod DescribedLemmas

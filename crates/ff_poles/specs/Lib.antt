@@ -1,0 +1,2 @@
+-- Spaces of functions
+pub mod Spaces
