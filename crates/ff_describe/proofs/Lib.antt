@@ -15,3 +15,8 @@ pub mod ExpressionLemmas
 pub mod TableLemmas
 -- Systems of given functions
 pub mod SystemLemmas
+-- Rows that begin as unit vectors do
+pub mod UnitRows
+pub mod ProductRows
+pub mod ReadRows
+pub mod ExactLemmas

@@ -4,11 +4,15 @@ use Rattle.std.specs.List.{All}
 use Rattle.ff_theory.specs.Ring.{Elements}
 use Rattle.ff_theory.specs.Lawful.{Lawful}
 use Rattle.ff_elem.specs.declared.elem.Elem.{Elem}
-use Rattle.ff_elem.specs.Elem.{IsElem, x_in, y_in}
+use Rattle.ff_elem.specs.Elem.{algebra_in, IsElem, x_in, y_in}
+use Rattle.ff_data.specs.declared.system.Coords.{Coords}
+use Rattle.ff_data.specs.declared.order.Order.{Order}
+use Rattle.ff_data.specs.declared.point.Point.{Point}
 use Rattle.ff_data.specs.declared.system.System.{System}
 use Rattle.ff_data.specs.Combinations.{AreElems}
 use Rattle.ff_data.specs.Systems.{AreCoords, HasForm, IsWithinWeight, IsExpression, ring_value}
-use Rattle.ff_data.specs.Systems.{weight_at, product_at}
+use Rattle.ff_data.specs.Systems.{weight_at, product_at, IsSystem}
+use Rattle.ff_systems.specs.Places.{IsPlace, HasLeastFunctions, WritesProducts}
 use Rattle.ff_forms.specs.declared.functions.Functions.{Functions}
 use Rattle.ff_describe.specs.Levels.{frame, product_of}
 use Rattle.ff_describe.specs.Readings.{HasTriangleShape}
@@ -34,6 +38,29 @@ module _ {F : Elements ℕ} (L : Lawful F) (f : List (List ℕ)) where
     pub count : length s.b ≡ s.e
     pub weights : length s.weights ≡ s.e
     pub within : All (λ m. m ≤ limit) s.weights
+
+  -- the element is written over a monic q in z with e * deg q, and with weights, up to the limit
+  abbrev pub IsWritten : ℕ → Functions → (algebra_in L f).carrier → Type 0
+  IsWritten limit s w = (c : Coords) × IsExpression L f (frame_of s) w (limit / s.e) limit c
+
+  -- the functions write their products, and x and y are written
+  pub record AllWritten (limit : ℕ) (s : Functions) : Type 0 where
+    pub products : WritesProducts L f (frame_of s)
+    pub x : IsWritten limit s (x_in L f)
+    pub y : IsWritten limit s (y_in L f)
+
+  -- Where the functions are the least functions of a point, and e is within the limit, the system
+  -- is a pole system of the point.
+  abbrev pub IsSystemWhereLeast : ℕ → Functions → System → Type 0
+  IsSystemWhereLeast limit functions s = (o : Order) (p : Point) (other : Order)
+      → IsPlace L f o p other → HasLeastFunctions L f o p other (frame_of functions)
+      → functions.e ≤ limit → IsSystem L f o p other limit s
+
+  -- where they are the least functions of a point, x or y is not written
+  abbrev pub IsUnwrittenWhereLeast : ℕ → Functions → Type 0
+  IsUnwrittenWhereLeast limit functions = (o : Order) (p : Point) (other : Order)
+      → IsPlace L f o p other → HasLeastFunctions L f o p other (frame_of functions)
+      → ¬ (IsWritten limit functions (x_in L f) × IsWritten limit functions (y_in L f))
 
   -- coordinates of b_i * b_k without a term of a weight above the sum of theirs
   pub record IsProductEntry (s : System) (i k : ℕ) (c : List (List ℕ)) : Type 0 where

@@ -63,6 +63,25 @@ pub record IsReading (F : Elements ℕ) (e : ℕ) (weights counts : List ℕ)
   pub cut : AreCut F counts n (rows r) c
   pub light : AreLight e weights bound c
 
+-- row r is one at r alone among the first n entries, and coordinates that the rest writes have no
+-- term of a weight above the bound
+pub record IsReadable (F : Elements ℕ) (e : ℕ) (weights counts : List ℕ)
+    (rows : ℕ → ℕ → F.carrier) (n r bound : ℕ) : Type 0 where
+  pub unit : IsUnit F n r (rows r)
+  pub light : (c : List (List ℕ)) → AreCut F counts n (rows r) c → AreLight e weights bound c
+
+-- row j of the triangle, and all rows
+abbrev pub IsReadableRow : (F : Elements ℕ) (e : ℕ) (weights counts : List ℕ)
+    (rows : ℕ → ℕ → F.carrier) (n j : ℕ) → Type 0
+IsReadableRow F e weights counts rows n j = (i : ℕ) → i < j + 1
+    → IsReadable F e weights counts rows n (triangle j + i)
+    (get_or weights i 0 + get_or weights j 0)
+
+abbrev pub AreReadable : (F : Elements ℕ) (e : ℕ) (weights counts : List ℕ)
+    (rows : ℕ → ℕ → F.carrier) (n : ℕ) → Type 0
+AreReadable F e weights counts rows n = (j : ℕ) → j < length weights
+    → IsReadableRow F e weights counts rows n j
+
 -- the first m lists of row j of the triangle: what the rows from `triangle j` on write
 pub record IsTriangleRow (F : Elements ℕ) (e : ℕ) (weights counts : List ℕ)
     (rows : ℕ → ℕ → F.carrier) (n j m : ℕ) (lists : List (List (List ℕ))) : Type 0 where

@@ -1,5 +1,6 @@
 // The products of each two elements of a list, and what rows of relations write of them.
-ghost use Rattle.std.specs.Prelude.{◌≡◌, ℕ, ◌+◌, ◌<◌, ◌≤◌, ◌↔◌, length, IfOk, IfSome, IsTrue};
+ghost use Rattle.std.specs.Prelude.{◌≡◌, ℕ, ◌+◌, ◌<◌, ◌≤◌, ◌↔◌, length, IfOk, IfSome, IfNone};
+ghost use Rattle.std.specs.Prelude.{IsTrue};
 ghost use Rattle.std.specs.Prelude.{get_or, ◌*◌, ◌-◌};
 ghost use Rattle.std.specs.List.{All};
 ghost use Rattle.ff_theory.specs.Ring.{IsElement};
@@ -7,7 +8,7 @@ ghost use Rattle.ff_theory.specs.Vector.{vector_of, vectors_of};
 ghost use Rattle.ff_lin.specs.Space.{rows_of, AreVectors};
 ghost use Rattle.ff_data.specs.Combinations.{AreElems};
 ghost use Rattle.ff_describe.specs.Levels.{offset, Extends, AreProducts, product_of};
-ghost use Rattle.ff_describe.specs.Readings.{IsUnit, AreLight, IsReading};
+ghost use Rattle.ff_describe.specs.Readings.{IsUnit, AreLight, IsReading, IsReadable};
 
 use crate::coordinates::{are_zero, coordinates};
 use ff_alg::{FiniteField, NoMemory, same};
@@ -59,7 +60,8 @@ fn is_unit<K: FiniteField<E = u32>>(k: &K, row: &[u32], n: usize, r: usize) -> b
     requires row { All (IsElement (K.elements k.now)) row.now }
     requires room { n ≤ length row.now }
     requires index { r < n }
-    ensures { let F = K.elements k.now in IsTrue result → IsUnit F n r (vector_of F row.now) }
+    ensures unit { let F = K.elements k.now in IsTrue result → IsUnit F n r (vector_of F row.now) }
+    ensures all { let F = K.elements k.now in IsUnit F n r (vector_of F row.now) → IsTrue result }
 {
     if !are_zero(k, row, 0, r) {
         return false;
@@ -72,7 +74,8 @@ fn is_unit<K: FiniteField<E = u32>>(k: &K, row: &[u32], n: usize, r: usize) -> b
 
 /// Whether a polynomial at an index is 0, or its weight is at most the bound.
 fn is_light(e: u32, m: u32, p: &Poly, bound: u32) -> bool
-    ensures { IsTrue result → 0 < length p.now → e * (length p.now - 1) + m ≤ bound }
+    ensures light { IsTrue result → 0 < length p.now → e * (length p.now - 1) + m ≤ bound }
+    ensures all { (0 < length p.now → e * (length p.now - 1) + m ≤ bound) → IsTrue result }
 {
     if p.is_zero() {
         return true;
@@ -85,7 +88,8 @@ fn is_light(e: u32, m: u32, p: &Poly, bound: u32) -> bool
 /// Whether no term of the coordinates has a weight above the bound.
 fn are_light(e: u32, weights: &[u32], c: &[Poly], bound: u32) -> bool
     requires count { length c.now ≡ length weights.now }
-    ensures { IsTrue result → AreLight e weights.now bound c.now }
+    ensures light { IsTrue result → AreLight e weights.now bound c.now }
+    ensures all { AreLight e weights.now bound c.now → IsTrue result }
 {
     for l in 0..c.len() {
         if !is_light(e, weights[l], &c[l], bound) {
@@ -95,8 +99,8 @@ fn are_light(e: u32, weights: &[u32], c: &[Poly], bound: u32) -> bool
     true
 }
 
-/// The coordinates that row r writes of the element with this index among n, where it does, and
-/// without a term of a weight above the bound.
+/// The coordinates that row r writes of the element with this index among n; None exactly where it
+/// writes none, or with a term of a weight above the bound.
 pub fn reading<K: FiniteField<E = u32>>(
     alloc: Global,
     k: &K,
@@ -113,8 +117,10 @@ pub fn reading<K: FiniteField<E = u32>>(
         AreVectors F (n + offset counts.now (length counts.now)) rows.now }
     requires row { r < length rows.now }
     requires index { r < n }
-    ensures { let F = K.elements k.now in IfOk result (λ o. IfSome o (IsReading F e weights.now
+    ensures some { let F = K.elements k.now in IfOk result (λ o. IfSome o (IsReading F e weights.now
         counts.now (vectors_of F (rows_of rows.now)) n r bound)) }
+    ensures none { let F = K.elements k.now in IfOk result (λ o. IfNone o (¬ IsReadable F e
+        weights.now counts.now (vectors_of F (rows_of rows.now)) n r bound)) }
 {
     let row = &rows[r];
     if !is_unit(k, row, n, r) {

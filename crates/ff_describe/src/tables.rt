@@ -1,11 +1,13 @@
 // The table of the products of the b_i.
 ghost use Rattle.std.specs.Prelude.{◌≡◌, ℕ, ◌+◌, ◌^◌, ◌<◌, ◌≤◌, length, IfOk, IfSome, get_or, []};
+ghost use Rattle.std.specs.Prelude.{IfNone};
 ghost use Rattle.std.specs.List.{All};
 ghost use Rattle.ff_theory.specs.Vector.{vectors_of};
 ghost use Rattle.ff_lin.specs.Space.{rows_of, AreVectors};
 ghost use Rattle.ff_describe.specs.Levels.{offset, triangle};
 ghost use Rattle.ff_describe.specs.Readings.{IsTriangleRow, IsTriangle, IsSide, AreSides};
-ghost use Rattle.ff_describe.specs.Readings.{HasTriangleShape};
+ghost use Rattle.ff_describe.specs.Readings.{HasTriangleShape, IsReadableRow, AreReadable};
+ghost use Rattle.ff_systems.specs.Places.{WritesProducts};
 ghost use Rattle.ff_describe.specs.Described.{frame_of, AreFunctionsWithin, IsTableOf};
 ghost use Rattle.ff_describe.specs.Described.{IsTriangleOf};
 
@@ -20,7 +22,8 @@ use std::alloc::Global;
 
 /// The greatest of the weights, and 0 where there is none.
 fn greatest(weights: &[u32]) -> u32
-    ensures { (M : ℕ) → All (λ m. m ≤ M) weights.now → result ≤ M }
+    ensures least { (M : ℕ) → All (λ m. m ≤ M) weights.now → result ≤ M }
+    ensures above { All (λ m. m ≤ result) weights.now }
 {
     let mut greatest = 0;
     for m in weights {
@@ -49,8 +52,10 @@ fn triangle_row<K: FiniteField<E = u32>>(
     requires index { j < length weights.now }
     requires start { start ≡ triangle j }
     requires room { start + j < n }
-    ensures { let F = K.elements k.now in IfOk result (λ o. IfSome o (IsTriangleRow F e
+    ensures some { let F = K.elements k.now in IfOk result (λ o. IfSome o (IsTriangleRow F e
         weights.now counts.now (vectors_of F (rows_of rows.now)) n j (j + 1))) }
+    ensures none { let F = K.elements k.now in IfOk result (λ o. IfNone o (¬ IsReadableRow F e
+        weights.now counts.now (vectors_of F (rows_of rows.now)) n j)) }
 {
     let mut items = Vec::with_capacity(alloc, j + 1)?;
     for i in 0..j + 1 {
@@ -79,9 +84,11 @@ fn triangle_rows<K: FiniteField<E = u32>>(
         AreVectors F (n + offset counts.now (length counts.now)) rows.now }
     requires all { n ≤ length rows.now }
     requires products { n ≡ triangle (length weights.now) }
-    ensures { let F = K.elements k.now in IfOk result (λ o. IfSome o (λ v. IsTriangle F e
+    ensures some { let F = K.elements k.now in IfOk result (λ o. IfSome o (λ v. IsTriangle F e
         weights.now counts.now (vectors_of F (rows_of rows.now)) n (length weights.now)
         v.items)) }
+    ensures none { let F = K.elements k.now in IfOk result (λ o. IfNone o (¬ AreReadable F e
+        weights.now counts.now (vectors_of F (rows_of rows.now)) n)) }
 {
     let mut lists = Vec::with_capacity(alloc, weights.len())?;
     let mut start = 0;
@@ -145,8 +152,10 @@ fn triangle_of<K: FiniteField<E = u32>>(
     limit: u32,
 ) -> Result<Option<Vec<PolyLists>>, NoMemory>
     requires { AreFunctionsWithin (K.lawful alg.now.k) alg.now.f limit functions.now }
-    ensures { let L = K.lawful alg.now.k in let f = alg.now.f in IfOk result (λ o. IfSome o
+    ensures some { let L = K.lawful alg.now.k in let f = alg.now.f in IfOk result (λ o. IfSome o
         (λ v. IsTriangleOf L f (frame_of functions.now) v.items)) }
+    ensures none { let L = K.lawful alg.now.k in let f = alg.now.f in IfOk result (λ o. IfNone o
+        (¬ WritesProducts L f (frame_of functions.now))) }
 {
     let _limit = limit;
     let weights = functions.weights.items.as_slice();
@@ -164,7 +173,7 @@ fn triangle_of<K: FiniteField<E = u32>>(
 }
 
 /// The table of the products of the b_i; None where one is no combination of the levels up to its
-/// weight.
+/// weight, or the levels are dependent.
 pub fn table_of<K: FiniteField<E = u32>>(
     alloc: Global,
     alg: &Alg<K>,
@@ -172,8 +181,10 @@ pub fn table_of<K: FiniteField<E = u32>>(
     limit: u32,
 ) -> Result<Option<Table>, NoMemory>
     requires { AreFunctionsWithin (K.lawful alg.now.k) alg.now.f limit functions.now }
-    ensures { let L = K.lawful alg.now.k in let f = alg.now.f in IfOk result
+    ensures some { let L = K.lawful alg.now.k in let f = alg.now.f in IfOk result
         (λ o. IfSome o (IsTableOf L f (frame_of functions.now))) }
+    ensures none { let L = K.lawful alg.now.k in let f = alg.now.f in IfOk result (λ o. IfNone o
+        (¬ WritesProducts L f (frame_of functions.now))) }
 {
     match triangle_of(alloc, alg, functions, limit)? {
         None => Ok(None),

@@ -1,15 +1,15 @@
 -- A basis of an order of a chart modulo u - a and a table of its products, by vectors.
-use Rattle.std.proofs.Common.{◌≡◌, ℕ, pred, ◌<◌, ◌≤◌, ◌↔◌, false, [], refl, sym, ◌∙◌, ap, ap₂}
+use Rattle.std.proofs.Common.{◌≡◌, ℕ, pred, ◌<◌, ◌≤◌, ◌↔◌, false, refl, sym, ◌∙◌, ap, ap₂}
 use Rattle.std.proofs.Common.{subst, arith}
-use Rattle.ff_theory.specs.Ring.{RingOps, IsCommRing, power}
+use Rattle.ff_theory.specs.Ring.{RingOps, IsCommRing}
 use Rattle.ff_theory.specs.Lawful.{Domain, Field}
 use Rattle.ff_theory.specs.Map.{IsMap}
 use Rattle.ff_theory.specs.Monomial.{monomial}
 use Rattle.ff_theory.specs.Poly.{coeff, Poly, polynomials}
 use Rattle.ff_theory.specs.Division.{size, IsDivision}
 use Rattle.ff_theory.specs.Planes.{planes, Plane, row_of}
-use Rattle.ff_theory.specs.Span.{combination, product, InSpan}
-use Rattle.ff_theory.proofs.Solver.{◌⊕◌, ◌⊗◌, neg, nil, unit, ring1, ring2, ring3, ring4}
+use Rattle.ff_theory.specs.Span.{combination, InSpan}
+use Rattle.ff_theory.proofs.Solver.{◌⊕◌, ◌⊗◌, neg, nil, ring1, ring2, ring3, ring4}
 use Rattle.ff_theory.proofs.Poly.{polynomial_laws}
 use Rattle.ff_theory.proofs.PolyMap.{polynomial_domain, zero_size, nonzero_size}
 use Rattle.ff_charts.specs.Chart.{Chart, at_u, at_theta, IsChart}
@@ -25,10 +25,8 @@ use Rattle.ff_local.proofs.ChartOrder.{order_in, powers_in}
 use Rattle.ff_local.proofs.Orders.{in_neg}
 use Rattle.ff_local.proofs.ChartSpanning.{sum_at_theta, in_over, shape_less}
 use Rattle.ff_local.proofs.Quotients.{times_over}
-use Rattle.ff_local.proofs.PlaneSums.{sum_has_shape}
 use Rattle.ff_values.proofs.MultipleVectors.{combination_into, combination_back, sum_back}
 use Rattle.ff_values.proofs.SpannedNumerators.{first_modulus, numerator_spans, element_numerator}
-use Rattle.ff_values.proofs.SpannedNumerators.{numerator_in}
 use Rattle.ff_values.proofs.ProductNumerators.{product_quotient, residue_numerator, product_is}
 use Rattle.ff_data.proofs.PlaneQuotients.{quotient_is}
 use Rattle.ff_fibre.proofs.PowerPlanes.{monomial_theta, monomial_shape}

@@ -1,22 +1,22 @@
 -- The equation of a chart in code, residues of planes, and the table of products.
-use Rattle.std.proofs.Common.{◌≡◌, ℕ, suc, pred, ◌-◌, ◌<◌, ◌≤◌, List, [], length, get_or, sym, ◌∙◌, ap}
+use Rattle.std.proofs.Common.{◌≡◌, ℕ, suc, pred, ◌-◌, ◌<◌, ◌≤◌, List, length, sym, ◌∙◌, ap}
 use Rattle.std.proofs.Common.{subst, arith}
 use Rattle.std.specs.Global.{Vec}
 use mathlib.Core.Path.{fun_ext}
-use Rattle.ff_theory.specs.Ring.{Elements, IsCommRing}
+use Rattle.ff_theory.specs.Ring.{Elements}
 use Rattle.ff_theory.specs.Lawful.{Lawful, lawful_field, Domain}
-use Rattle.ff_theory.specs.Poly.{coeff, Poly, polynomials}
+use Rattle.ff_theory.specs.Poly.{coeff, polynomials}
 use Rattle.ff_theory.specs.Division.{size}
-use Rattle.ff_theory.specs.Planes.{planes, Plane}
+use Rattle.ff_theory.specs.Planes.{Plane}
 use Rattle.ff_theory.specs.Values.{poly_of, plane_of, IsPoly, IsPlane}
 use Rattle.ff_theory.specs.Vector.{vector_of}
 use Rattle.ff_theory.proofs.Poly.{polynomial_laws}
 use Rattle.ff_theory.proofs.PolyMap.{polynomial_domain}
 use Rattle.ff_charts.specs.Chart.{IsChart}
-use Rattle.ff_charts.specs.Lattice.{HasShape, flat}
+use Rattle.ff_charts.specs.Lattice.{HasShape}
 use Rattle.ff_lattice.specs.Remainder.{IsMonic, IsCongruent}
 use Rattle.ff_lattice.specs.Residues.{AreResidues}
-use Rattle.ff_lin.specs.Space.{SpaceParts, rows_of}
+use Rattle.ff_lin.specs.Space.{rows_of}
 use Rattle.ff_poly.proofs.LongDivision.{poly-size, poly-size-le}
 use Rattle.ff_elem.specs.Elem.{algebra_in}
 use Rattle.ff_elem.proofs.Reduction.{plane-size}

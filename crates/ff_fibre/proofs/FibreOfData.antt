@@ -1,28 +1,29 @@
 -- The data of a fibre as one of an order of a chart, for an equation f over a field whose laws are
 -- L, where the order is closed under products.
 use Rattle.std.proofs.Common.{◌≡◌, ℕ, pred, ◌+◌, ◌-◌, ◌<◌, ◌≤◌, ◌⊎◌, inl, inr, ◌↔◌, false, List, []}
-use Rattle.std.proofs.Common.{length, get_or, refl, sym, ◌∙◌, ap, ap₂, subst, arith, map}
+use Rattle.std.proofs.Common.{length, get_or, refl, sym, ◌∙◌, ap, ap₂, subst, arith}
 use Rattle.std.proofs.lemmas.Bool.{cases_lt}
 use Rattle.std.proofs.lemmas.List.{length-map}
 use Rattle.std.specs.Global.{Vec}
 use mathlib.Core.Path.{fun_ext}
-use Rattle.ff_local.specs.Point.{IsSpanned}
+use Rattle.ff_local.specs.Point.{OrderIn, IsMultiple, IsSpanned}
 use Rattle.ff_theory.specs.Ring.{RingOps, IsCommRing, Elements, power}
-use Rattle.ff_theory.specs.Lawful.{Domain, Field, Lawful, lawful_field}
+use Rattle.ff_theory.specs.Lawful.{Field, Lawful, lawful_field}
 use Rattle.ff_theory.specs.Monomial.{monomial}
-use Rattle.ff_theory.specs.Poly.{coeff, Poly, polynomials}
+use Rattle.ff_theory.specs.Poly.{Poly, polynomials}
 use Rattle.ff_theory.specs.Division.{size}
-use Rattle.ff_theory.specs.Planes.{planes, Plane, row_of}
+use Rattle.ff_theory.specs.Planes.{planes, Plane}
 use Rattle.ff_theory.specs.Span.{combination, product, InSpan}
 use Rattle.ff_theory.specs.Values.{poly_of, plane_of, IsPlane}
 use Rattle.ff_theory.specs.Vector.{vector_of, vectors_of}
 use Rattle.ff_theory.specs.Map.{IsMap}
-use Rattle.ff_theory.proofs.Solver.{◌⊕◌, ◌⊗◌, nil, ring2}
+use Rattle.ff_theory.proofs.Solver.{◌⊕◌, ◌⊗◌, nil, ring2, ring3}
 use Rattle.ff_theory.proofs.Span.{span-same}
 use Rattle.ff_charts.specs.Chart.{Chart as ChartOf, at_u, at_theta, IsChart}
 use Rattle.ff_charts.specs.Lattice.{HasShape, IsTimes, flat}
 use Rattle.ff_charts.specs.Lattice.{IsResidue}
-use Rattle.ff_charts.proofs.Chart.{at_theta_map, row_times, cancel_u, powers_plane, powers_power}
+use Rattle.ff_charts.proofs.Chart.{at_u_map, at_theta_map, row_times, cancel_u, powers_plane}
+use Rattle.ff_charts.proofs.Chart.{powers_power}
 use Rattle.ff_charts.proofs.Flat.{flat_one, plane_with_flat}
 use Rattle.ff_local.specs.ChartOrder.{ChartOrder, InChartOrder, root_at}
 use Rattle.ff_local.specs.ChartPole.{pole_modulus}
@@ -31,6 +32,7 @@ use Rattle.ff_lattice.specs.Remainder.{IsCongruent}
 use Rattle.ff_lattice.specs.Residues.{AreResidues}
 use Rattle.ff_characters.specs.Characters.{tables_of}
 use Rattle.ff_local.specs.Functional.{HasFunctionalValue}
+use Rattle.ff_local.proofs.Orders.{v_multiple}
 use Rattle.ff_local.proofs.ChartOrder.{order_in}
 use Rattle.ff_local.proofs.ChartFibre.{fibre}
 use Rattle.ff_local.proofs.ChartOrder.{powers_in}
@@ -39,8 +41,9 @@ use Rattle.ff_local.proofs.Quotients.{times_over}
 use Rattle.ff_lin.specs.Space.{rows_of, InSpace}
 use Rattle.ff_poly.proofs.LongDivision.{poly-size}
 use Rattle.ff_values.proofs.SpannedNumerators.{first_modulus, element_numerator}
+use Rattle.ff_values.proofs.SpannedNumerators.{multiple_numerator}
 use Rattle.ff_elem.specs.Elem.{algebra_in}
-use Rattle.ff_modulo.specs.Modulo.{IsRowOf, IsSpannedModulo}
+use Rattle.ff_modulo.specs.Modulo.{IsRowOf, IsCombinationModulo, IsSpannedModulo}
 use Rattle.ff_data.specs.declared.order.Chart.TheVariants.{Finite}
 use Rattle.ff_data.specs.declared.order.Order.{Order}
 use Rattle.ff_data.specs.Orders.{chart_of, y_degree, IsOrder, InOrder, InResidues}
@@ -48,8 +51,8 @@ use Rattle.ff_data.proofs.ChartLaws.{algebra_laws, chart_laws, chart_degree}
 use Rattle.ff_data.proofs.LocalOrder.{local_order, order_rows, order_ends}
 use Rattle.ff_data.proofs.NumeratorLemmas.{order_length}
 use Rattle.ff_fibre.specs.declared.parts.Fibre.{Fibre}
-use Rattle.ff_fibre.specs.Fibres.{IsBasisAt, AreSpanning, AreCoefficientsOf, IsWidened}
-use Rattle.ff_fibre.specs.Fibres.{AreCoordinatesOf, IsProductOver, IsEntryOf, AreEntries, IsFibreAt}
+use Rattle.ff_fibre.specs.Fibres.{IsBasisAt, AreSpanning}
+use Rattle.ff_fibre.specs.Fibres.{AreCoordinatesOf, IsEntryOf, AreEntries}
 use Rattle.ff_fibre.proofs.PowerPlanes.{monomial_theta, monomial_shape}
 use Rattle.ff_fibre.proofs.ChartFibres.{IsNear, IsEntry, spans, chart_fibre}
 use Rattle.ff_fibre.proofs.ChartFibres.{residue_is_numerator, element_spanned}
@@ -69,6 +72,11 @@ module _ (F : Elements ℕ) (L : Lawful F) (f : List (List ℕ)) (hf : IsPlane F
     (b : IsBasisAt L f o a s) where
   abbrev K : Field
   K = lawful_field L
+
+  abbrev P : OrderIn
+  P = order_in (lawful_field L) (algebra_in L f) (algebra_laws F L f hf two)
+      (chart_of L f o.chart) (chart_laws F L f hf two o.chart)
+      (local_order F L f hf two o h closed) a modulus
 
   abbrev A : RingOps
   A = algebra_in L f
@@ -330,6 +338,121 @@ module _ (F : Elements ℕ) (L : Lawful F) (f : List (List ℕ)) (hf : IsPlane F
     subst (λ m. Near (flat F.ring m k.residue) d) (sym wide_is) n,
   ))
 
+  -- for an element of the order with the numerator N over d, and the residue R of N
+  module _ (x : (algebra_in L f).carrier) (inside : InOrder L f o x) (N R : Plane (lawful_field L))
+      (over_is : at_theta (chart_of L f o.chart) N
+      ≡ (algebra_in L f).mul (at_u (chart_of L f o.chart) (poly_of F o.d)) x)
+      (residues : AreResidues F.ring (poly_of F s.modulus) N R)
+      (low : HasShape F.ring (y_degree L f) (pred (length s.modulus)) R) where
+    residue : IsResidue c (pole_modulus c O a 1) (at_theta c N) R
+    residue = residue_of N R residues low
+
+    near : (e : ℕ → F.carrier) × Near (flat F.ring ld R) e
+    near = spans (lawful_field L) (algebra_in L f) (algebra_laws F L f hf two)
+        (chart_of L f o.chart) (chart_laws F L f hf two o.chart)
+        (local_order F L f hf two o h closed) a modulus (length s.space.basis)
+        (vectors_of F s.space.basis) exact (length (rows_of s.rows.items))
+        (vectors_of F (rows_of s.rows.items)) plane_at numerator vector independent powers basis
+        more room R (residue_is_numerator (lawful_field L) (algebra_in L f)
+        (algebra_laws F L f hf two) (chart_of L f o.chart) (chart_laws F L f hf two o.chart)
+        (local_order F L f hf two o h closed) a modulus (length s.space.basis)
+        (vectors_of F s.space.basis) exact (length (rows_of s.rows.items))
+        (vectors_of F (rows_of s.rows.items)) plane_at numerator vector independent powers basis
+        more room x inside N R over_is residue)
+
+    -- R is a combination of the rows up to a vector of the space
+    pub residue_spanned : IsSpannedModulo F s.space (rows_of s.rows.items)
+        (flat F.ring (pred (length s.modulus)) R)
+    residue_spanned = (
+      near.0,
+      subst (λ m. Near (flat F.ring m R) near.0) (sym wide_is) near.1,
+    )
+
+    -- and the element is the same combination of the basis up to u - a times one of the order
+    pub element_combination : (e : ℕ → F.carrier)
+        → IsCombinationModulo F s.space (rows_of s.rows.items) e
+        (flat F.ring (pred (length s.modulus)) R)
+        → (h : IsSpanned (order_in (lawful_field L) (algebra_in L f) (algebra_laws F L f hf two)
+        (chart_of L f o.chart) (chart_laws F L f hf two o.chart)
+        (local_order F L f hf two o h closed) a modulus) (length (rows_of s.rows.items))
+        (λ i. (algebra_in L f).mul ((chart_laws F L f hf two o.chart).inverse (poly_of F o.d))
+        (at_theta (chart_of L f o.chart) (plane_at i))) x)
+        × ((i : ℕ) → h.coefficients i ≡ e i)
+    element_combination e k = element_spanned (lawful_field L) (algebra_in L f)
+        (algebra_laws F L f hf two) (chart_of L f o.chart) (chart_laws F L f hf two o.chart)
+        (local_order F L f hf two o h closed) a modulus (length s.space.basis)
+        (vectors_of F s.space.basis) exact (length (rows_of s.rows.items))
+        (vectors_of F (rows_of s.rows.items)) plane_at numerator vector independent powers basis
+        more room x inside N R over_is residue e
+        (subst (λ m. Near (flat F.ring m R) e) wide_is k)
+
+  -- the coordinates of a numerator of an element of the order are those of its residue
+  pub coordinates_exact : (x : (algebra_in L f).carrier) → InOrder L f o x
+      → (N : Plane (lawful_field L)) → at_theta (chart_of L f o.chart) N
+      ≡ (algebra_in L f).mul (at_u (chart_of L f o.chart) (poly_of F o.d)) x
+      → (e : ℕ → F.carrier) → (k : AreCoordinatesOf L f s N e)
+      → IsCombinationModulo F s.space (rows_of s.rows.items) e
+      (flat F.ring (pred (length s.modulus)) k.residue)
+  coordinates_exact x inside N over_is e k =
+      k.value (residue_spanned x inside N k.residue over_is k.residues k.shape)
+
+  -- the space has exactly the numerators of the products of u - a and an element of the order
+  pub space_exact : (N : Plane (lawful_field L))
+      → HasShape F.ring (y_degree L f) (pred (length s.modulus)) N
+      → InSpace F s.space (flat F.ring (pred (length s.modulus)) N)
+      ↔ ((x : (algebra_in L f).carrier) × (InOrder L f o x × (at_theta (chart_of L f o.chart) N
+      ≡ (algebra_in L f).mul (at_u (chart_of L f o.chart) (poly_of F s.modulus)) x)))
+  unfolding l
+  space_exact N low = (into, back)
+    where
+      own : HasShape F.ring c.degree ld N
+      own = subst (λ m. HasShape F.ring c.degree m N) wide_is
+          (subst (λ n. HasShape F.ring n (pred (length s.modulus)) N) degree low)
+
+      nonzero : (polynomials F.ring).same (poly_of F o.d) (polynomials F.ring).zero ≡ false
+      nonzero = l.modulus_nonzero (poly_of F o.d) h.modulus
+
+      split : at_u c (poly_of F s.modulus)
+          ≡ A.mul (at_u c (root_at F.ring a)) (at_u c (poly_of F o.d))
+      split = ap (at_u c) b.modulus ∙ (at_u_map (lawful_field L) (algebra_in L f)
+          (algebra_laws F L f hf two) c l).on_mul (root_at F.ring a) (poly_of F o.d)
+
+      into : InSpace F s.space (flat F.ring (pred (length s.modulus)) N) → (x : A.carrier)
+          × (InOrder L f o x × (at_theta c N ≡ A.mul (at_u c (poly_of F s.modulus)) x))
+      into i = (
+        over m.part,
+        (
+          in_over (lawful_field L) (algebra_in L f) (algebra_laws F L f hf two) c l O m.part
+              m.shape m.is_in,
+          ap (at_theta c) m.product ∙ row_times (lawful_field L) (algebra_in L f)
+              (algebra_laws F L f hf two) c l (root_at F.ring a) m.part
+              ∙ ap (A.mul (at_u c (root_at F.ring a))) (sym (times_over (lawful_field L)
+              (algebra_in L f) (algebra_laws F L f hf two) c l (poly_of F o.d) nonzero m.part))
+              ∙ ring3 A AL (λ r d x. r ⊗ (d ⊗ x)) (λ r d x. r ⊗ d ⊗ x) refl
+              (at_u c (root_at F.ring a)) (at_u c (poly_of F o.d)) (over m.part)
+              ∙ ap (λ t. A.mul t (over m.part)) (sym split),
+        ),
+      )
+        where
+          m : IsRootMultiple c O a N
+          m = (exact N own).0 (subst (λ m. InSpace F s.space (flat F.ring m N)) wide_is i)
+
+      back : (x : A.carrier)
+          × (InOrder L f o x × (at_theta c N ≡ A.mul (at_u c (poly_of F s.modulus)) x))
+          → InSpace F s.space (flat F.ring (pred (length s.modulus)) N)
+      back t = subst (λ m. InSpace F s.space (flat F.ring m N)) (sym wide_is)
+          ((exact N own).1 (multiple_numerator (lawful_field L) (algebra_in L f)
+          (algebra_laws F L f hf two) c l O a modulus N own
+          (subst (IsMultiple P) (sym times) (v_multiple P t.0 t.1.0))))
+        where
+          times : over N ≡ A.mul (at_u c (root_at F.ring a)) t.0
+          times = cancel_u (lawful_field L) (algebra_in L f) (algebra_laws F L f hf two) c l
+              (poly_of F o.d) nonzero _ _ (times_over (lawful_field L) (algebra_in L f)
+              (algebra_laws F L f hf two) c l (poly_of F o.d) nonzero N ∙ t.1.1
+              ∙ ap (λ y. A.mul y t.0) split
+              ∙ ring3 A AL (λ r d x. r ⊗ d ⊗ x) (λ r d x. d ⊗ (r ⊗ x)) refl
+              (at_u c (root_at F.ring a)) (at_u c (poly_of F o.d)) t.0)
+
   module _ (all : AreEntries L f o s (tables_of s.table.items) (length s.planes.items)) where
     abbrev pub table_at : ℕ → ℕ → ℕ → F.carrier
     table_at i j = vectors_of F (get_or (tables_of s.table.items) i []) j
@@ -380,32 +503,11 @@ module _ (F : Elements ℕ) (L : Lawful F) (f : List (List ℕ)) (hf : IsPlane F
       ap (λ y. product F.ring (length (rows_of s.rows.items)) y chi) (sym (fun_ext t.1)),
     )
       where
-        residue : IsResidue c (pole_modulus c O a 1) (at_theta c N) k.residue
-        residue = residue_of N k.residue k.residues k.shape
-
-        near : (d : ℕ → F.carrier) × Near (flat F.ring ld k.residue) d
-        near = spans (lawful_field L) (algebra_in L f) (algebra_laws F L f hf two)
-            (chart_of L f o.chart) (chart_laws F L f hf two o.chart)
-            (local_order F L f hf two o h closed) a modulus (length s.space.basis)
-            (vectors_of F s.space.basis) exact (length (rows_of s.rows.items))
-            (vectors_of F (rows_of s.rows.items)) plane_at numerator vector independent powers
-            basis more room k.residue (residue_is_numerator (lawful_field L) (algebra_in L f)
-            (algebra_laws F L f hf two) (chart_of L f o.chart) (chart_laws F L f hf two o.chart)
-            (local_order F L f hf two o h closed) a modulus (length s.space.basis)
-            (vectors_of F s.space.basis) exact (length (rows_of s.rows.items))
-            (vectors_of F (rows_of s.rows.items)) plane_at numerator vector independent powers
-            basis more room x inside N k.residue over_is residue)
-
         t : (h : IsSpanned (order_in (lawful_field L) (algebra_in L f)
             (algebra_laws F L f hf two) (chart_of L f o.chart) (chart_laws F L f hf two o.chart)
             (local_order F L f hf two o h closed) a modulus) (length (rows_of s.rows.items))
             (λ i. (algebra_in L f).mul ((chart_laws F L f hf two o.chart).inverse (poly_of F o.d))
             (at_theta (chart_of L f o.chart) (plane_at i))) x)
             × ((i : ℕ) → h.coefficients i ≡ e i)
-        t = element_spanned (lawful_field L) (algebra_in L f) (algebra_laws F L f hf two)
-            (chart_of L f o.chart) (chart_laws F L f hf two o.chart)
-            (local_order F L f hf two o h closed) a modulus (length s.space.basis)
-            (vectors_of F s.space.basis) exact (length (rows_of s.rows.items))
-            (vectors_of F (rows_of s.rows.items)) plane_at numerator vector independent powers basis
-            more room x inside N k.residue over_is residue e
-            (near_value N e k near.0 near.1)
+        t = element_combination x inside N k.residue over_is k.residues k.shape e
+            (coordinates_exact x inside N over_is e k)

@@ -9,7 +9,7 @@ use Rattle.ff_theory.specs.Poly.{Poly, polynomials}
 use Rattle.ff_theory.specs.Division.{size}
 use Rattle.ff_theory.specs.Monomial.{monomial}
 use Rattle.ff_theory.specs.Values.{poly_of, IsPoly, plane_of}
-use Rattle.ff_theory.specs.Vector.{vector_of, vectors_of}
+use Rattle.ff_theory.specs.Vector.{vectors_of}
 use Rattle.ff_charts.specs.Lattice.{HasShape, flat}
 use Rattle.ff_lin.specs.Space.{rows_of, AreVectors, IsSpaceOf}
 use Rattle.ff_local.specs.ChartOrder.{root_at}

@@ -29,16 +29,18 @@ use Rattle.ff_data.proofs.ChartLaws.{chart_laws, chart_degree}
 use Rattle.ff_data.proofs.Denominators.{cofactor-some}
 
 -- the first vector of the basis of a space
+pub first_row : (s : SpaceParts) → 0 < length s.basis → (basis : List (Vec ℕ)) (v : Vec ℕ)
+    → rows_of basis ≡ s.basis → v ≡ get_or basis 0 v → get_or s.basis 0 [] ≡ v.items
+first_row s some basis v e is = ap (λ t. get_or t 0 []) (sym e)
+    ∙ get_or-map (λ (r : Vec ℕ). r.items) basis 0 v []
+    (omega (arith, some, ap length e, length-map basis (λ (r : Vec ℕ). r.items)))
+    ∙ ap (λ (r : Vec ℕ). r.items) (sym is)
+
 pub first_vector : (F : Elements ℕ) (n : ℕ) (s : SpaceParts) → IsSpaceOf F n s
     → 0 < length s.basis → (basis : List (Vec ℕ)) (v : Vec ℕ) → rows_of basis ≡ s.basis
     → v ≡ get_or basis 0 v → IsVector F n v.items
 first_vector F n s h some basis v e is = subst (λ m. IsVector F m v.items) h.len
-    (subst (IsVector F s.len) same (h.space.rows 0 [] some))
-  where
-    same : get_or s.basis 0 [] ≡ v.items
-    same = ap (λ t. get_or t 0 []) (sym e) ∙ get_or-map (λ (r : Vec ℕ). r.items) basis 0 v []
-        (omega (arith, some, ap length e, length-map basis (λ (r : Vec ℕ). r.items)))
-        ∙ ap (λ (r : Vec ℕ). r.items) (sym is)
+    (subst (IsVector F s.len) (first_row s some basis v e is) (h.space.rows 0 [] some))
 
 module _ (F : Elements ℕ) (L : Lawful F) where
   abbrev K : Field

@@ -1,13 +1,14 @@
 // The pole modules of a point of an order.
 ghost use Rattle.std.specs.Prelude.{◌≡◌, ℕ, ◌+◌, ◌*◌, ◌<◌, pred, length, IfOk};
 ghost use Rattle.ff_theory.specs.Values.{poly_of, IsPoly};
-ghost use Rattle.ff_lin.specs.Space.{AreVectors, IsSpaceOf};
+ghost use Rattle.ff_lin.specs.Space.{rows_of, AreVectors, IsSpaceOf, SameSpace};
 ghost use Rattle.ff_data.specs.Orders.{chart_of, y_degree, IsOrder};
 ghost use Rattle.ff_data.specs.Lattices.{IsLattice};
-ghost use Rattle.ff_data.specs.Poles.{IsPole};
+ghost use Rattle.ff_data.specs.Poles.{IsPole, IsModuleOf};
 ghost use Rattle.ff_forms.specs.Forms.{HasPointForm};
 ghost use Rattle.ff_frac.specs.Powers.{HasPowersForm};
-ghost use Rattle.ff_frac.specs.Numerators.{HasNumeratorsForm};
+ghost use Rattle.ff_frac.specs.Places.{IsMaximalPlace, IsOrderLattice, IsModuleLattice};
+ghost use Rattle.ff_frac.specs.Numerators.{HasNumeratorsForm, AreNumeratorsAt};
 
 use crate::numerators::Numerators;
 use ff_alg::{FiniteField, NoMemory};
@@ -28,8 +29,11 @@ fn numerators<K: FiniteField<E = u32>>(
     requires order { IsOrder (K.lawful alg.now.k) alg.now.f order.now }
     requires point { HasPointForm (K.elements alg.now.k) order.now point.now }
     requires positive { 0 < j }
-    ensures { let L = K.lawful alg.now.k in
+    ensures form { let L = K.lawful alg.now.k in
         IfOk result (HasNumeratorsForm L alg.now.f order.now j) }
+    ensures exact { let L = K.lawful alg.now.k in let f = alg.now.f in
+        IsMaximalPlace L f order.now point.now →
+        IfOk result (AreNumeratorsAt L f order.now point.now j) }
 {
     let mut numerators = Numerators::start(alloc, alg, order, point)?;
     for i in 1..j {
@@ -47,8 +51,10 @@ pub(crate) fn span_of<K: FiniteField<E = u32>>(
 ) -> Result<Space, NoMemory>
     requires { let L = K.lawful alg.now.k in
         AreVectors (K.elements alg.now.k) (y_degree L alg.now.f * l) vectors.now }
-    ensures { let L = K.lawful alg.now.k in
+    ensures space { let L = K.lawful alg.now.k in
         IfOk result (IsSpaceOf (K.elements alg.now.k) (y_degree L alg.now.f * l)) }
+    ensures same { let F = K.elements alg.now.k in
+        IfOk result (λ s. SameSpace F s.basis (rows_of vectors.now)) }
 {
     match (alg.f.rows().len() - 1).checked_mul(l) {
         Some(len) => Space::span(alloc, &alg.k, len, vectors),
@@ -67,8 +73,11 @@ fn power_module<K: FiniteField<E = u32>>(
     requires order { IsOrder (K.lawful alg.now.k) alg.now.f order.now }
     requires point { HasPointForm (K.elements alg.now.k) order.now point.now }
     requires positive { 0 < j }
-    ensures { let L = K.lawful alg.now.k in
+    ensures lattice { let L = K.lawful alg.now.k in
         IfOk result (λ r. IsLattice L alg.now.f order.now.chart r.0 r.1) }
+    ensures exact { let L = K.lawful alg.now.k in let f = alg.now.f in let o = order.now in
+        IsMaximalPlace L f o point.now →
+        IfOk result (λ r. IsModuleLattice L f o point.now j r.0 r.1) }
 {
     let numerators = numerators(alloc, alg, order, point, j)?;
     let d = numerators.powers.modulus.copy(alloc)?;
@@ -84,8 +93,10 @@ fn own_module<K: FiniteField<E = u32>>(
     order: &Order,
 ) -> Result<(Poly, Space), NoMemory>
     requires order { IsOrder (K.lawful alg.now.k) alg.now.f order.now }
-    ensures { let L = K.lawful alg.now.k in
+    ensures lattice { let L = K.lawful alg.now.k in
         IfOk result (λ r. IsLattice L alg.now.f order.now.chart r.0 r.1) }
+    ensures same { let L = K.lawful alg.now.k in
+        IfOk result (λ r. IsOrderLattice L alg.now.f order.now r.0 r.1) }
 {
     let d = order.d.copy(alloc)?;
     let space = Space::span(alloc, &alg.k, order.space.len(), order.space.basis())?;
@@ -102,8 +113,11 @@ fn modulus_and_space<K: FiniteField<E = u32>>(
 ) -> Result<(Poly, Space), NoMemory>
     requires order { IsOrder (K.lawful alg.now.k) alg.now.f order.now }
     requires point { HasPointForm (K.elements alg.now.k) order.now point.now }
-    ensures { let L = K.lawful alg.now.k in
+    ensures lattice { let L = K.lawful alg.now.k in
         IfOk result (λ r. IsLattice L alg.now.f order.now.chart r.0 r.1) }
+    ensures exact { let L = K.lawful alg.now.k in let f = alg.now.f in let o = order.now in
+        IsMaximalPlace L f o point.now →
+        IfOk result (λ r. IsModuleLattice L f o point.now j r.0 r.1) }
 {
     if j == 0 {
         return own_module(alloc, alg, order);
@@ -139,6 +153,8 @@ pub fn pole_module<K: FiniteField<E = u32>>(
     ensures j { IfOk result (λ r. r.j ≡ j) }
     ensures point { IfOk result (λ r. r.point ≡ point.now) }
     ensures form { IfOk result (IsPole (K.lawful alg.now.k) alg.now.f) }
+    ensures exact { let L = K.lawful alg.now.k in let f = alg.now.f in
+        IsMaximalPlace L f order.now point.now → IfOk result (IsModuleOf L f order.now) }
 {
     let (d, space) = modulus_and_space(alloc, alg, order, point, j as usize)?;
     let point = copy_of(alloc, point)?;

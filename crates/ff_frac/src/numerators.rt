@@ -1,9 +1,11 @@
 // Numerators that span those of a pole module.
 ghost use Rattle.std.specs.Prelude.{◌≡◌, ℕ, ◌+◌, ◌*◌, ◌<◌, pred, length, IfOk};
-ghost use Rattle.ff_lin.specs.Space.{AreVectors};
+ghost use Rattle.ff_theory.specs.Values.{poly_of, plane_of};
+ghost use Rattle.ff_lin.specs.Space.{rows_of, AreVectors};
 ghost use Rattle.ff_data.specs.Orders.{y_degree, IsOrder};
 ghost use Rattle.ff_forms.specs.Forms.{HasPointForm};
 ghost use Rattle.ff_frac.specs.Powers.{HasPowersForm};
+ghost use Rattle.ff_frac.specs.Numerators.{IsWithPlane};
 
 use crate::powers::Powers;
 use ff_alg::{FiniteField, NoMemory};
@@ -36,8 +38,12 @@ fn with_power<K: FiniteField<E = u32>>(
         HasPowersForm L alg.now.f order.now (i + 1) powers.now }
     requires vectors { let L = K.lawful alg.now.k in let l = pred (length order.now.d + i) in
         AreVectors (K.elements alg.now.k) (y_degree L alg.now.f * l) vectors.now }
-    ensures { let L = K.lawful alg.now.k in let l = pred (length powers.now.modulus) in
+    ensures vectors { let L = K.lawful alg.now.k in let l = pred (length powers.now.modulus) in
         IfOk result (λ r. AreVectors (K.elements alg.now.k) (y_degree L alg.now.f * l) r.items) }
+    ensures value { let F = K.elements alg.now.k in let L = K.lawful alg.now.k in
+        let s = powers.now in let l = pred (length order.now.d + i) in IfOk result (λ r.
+        IsWithPlane L alg.now.f (poly_of F s.root) l (pred (length s.modulus))
+        (plane_of F s.power) (rows_of vectors.now) (rows_of r.items)) }
 {
     let _index = (i, order.chart);
     let l = powers.modulus.coeffs().len() - 1;
@@ -49,7 +55,9 @@ fn with_power<K: FiniteField<E = u32>>(
 }
 
 impl Numerators {
-    ghost use Rattle.ff_frac.specs.Numerators.{HasNumeratorsForm};
+    ghost use Rattle.ff_frac.specs.Places.{IsMaximalPlace};
+    ghost use Rattle.ff_frac.specs.Numerators.{HasNumeratorsForm, AreNumeratorsAt};
+    ghost use Rattle.ff_frac.specs.Numerators.{AreNextNumerators};
 
     /// The numerators over d*(u - a) for the pole module of order one.
     pub(crate) fn start<K: FiniteField<E = u32>>(
@@ -60,8 +68,11 @@ impl Numerators {
     ) -> Result<Numerators, NoMemory>
         requires order { IsOrder (K.lawful alg.now.k) alg.now.f order.now }
         requires point { HasPointForm (K.elements alg.now.k) order.now point.now }
-        ensures { let L = K.lawful alg.now.k in
+        ensures form { let L = K.lawful alg.now.k in
             IfOk result (HasNumeratorsForm L alg.now.f order.now 1) }
+        ensures exact { let L = K.lawful alg.now.k in let f = alg.now.f in
+            IsMaximalPlace L f order.now point.now →
+            IfOk result (AreNumeratorsAt L f order.now point.now 1) }
     {
         let powers = Powers::start(alloc, alg, order, point)?;
         let vectors = with_power(alloc, alg, order, &powers, 0, order.space.basis())?;
@@ -79,8 +90,10 @@ impl Numerators {
         requires order { IsOrder (K.lawful alg.now.k) alg.now.f order.now }
         requires form { let L = K.lawful alg.now.k in
             HasNumeratorsForm L alg.now.f order.now i self }
-        ensures { let L = K.lawful alg.now.k in
+        ensures form { let L = K.lawful alg.now.k in
             IfOk result (HasNumeratorsForm L alg.now.f order.now (i + 1)) }
+        ensures exact { let L = K.lawful alg.now.k in
+            IfOk result (AreNextNumerators L alg.now.f order.now i self) }
     {
         let powers = self.powers.step(alloc, alg, order, i)?;
         let vectors = with_power(alloc, alg, order, &powers, i, &self.vectors)?;

@@ -28,7 +28,10 @@ pub struct Powers {
 }
 
 impl Powers {
-    ghost use Rattle.ff_frac.specs.Powers.{IsFraction, HasPowersForm};
+    ghost use Rattle.ff_fibre.specs.Fibres.{IsProductOver};
+    ghost use Rattle.ff_frac.specs.Places.{IsMaximalPlace};
+    ghost use Rattle.ff_frac.specs.Powers.{IsFraction, HasPowersForm, IsPowerAt, IsFirstPower};
+    ghost use Rattle.ff_frac.specs.Powers.{IsNextPlane, IsNextPower};
 
     /// The first power, at a point of the order. `NoMemory` is the only error.
     pub fn start<K: FiniteField<E = u32>>(
@@ -39,12 +42,15 @@ impl Powers {
     ) -> Result<Powers, NoMemory>
         requires order { IsOrder (K.lawful alg.now.k) alg.now.f order.now }
         requires point { HasPointForm (K.elements alg.now.k) order.now point.now }
-        ensures { let L = K.lawful alg.now.k in
+        ensures form { let L = K.lawful alg.now.k in
             IfOk result (HasPowersForm L alg.now.f order.now 1) }
+        ensures exact { let L = K.lawful alg.now.k in let f = alg.now.f in
+            IsMaximalPlace L f order.now point.now →
+            IfOk result (IsPowerAt L f order.now point.now 1) }
     {
         let root = linear(alloc, &alg.k, point.a)?;
         let fibre = fibre_at(alloc, alg, order, point.a)?;
-        let multiplier = socle(alloc, alg, order, point, &root, &fibre)?;
+        let multiplier = socle(alloc, alg, order, point, &fibre)?;
         Powers::of(alloc, alg, order, root, multiplier)
     }
 
@@ -63,8 +69,10 @@ impl Powers {
             (chart_of L alg.now.f order.now.chart).IsModulus (poly_of F root) }
         requires multiplier { IsPlane (K.elements alg.now.k) multiplier }
         requires few { length multiplier ≤ y_degree (K.lawful alg.now.k) alg.now.f }
-        ensures { let L = K.lawful alg.now.k in
+        ensures form { let L = K.lawful alg.now.k in
             IfOk result (HasPowersForm L alg.now.f order.now 1) }
+        ensures exact { let L = K.lawful alg.now.k in
+            IfOk result (IsFirstPower L alg.now.f order.now root multiplier) }
     {
         let equation = chart_equation(alloc, alg, order.chart)?;
         let modulus = order.d.mul(alloc, &alg.k, &root)?;
@@ -92,6 +100,9 @@ impl Powers {
         ensures plane { IfOk result (IsPlane (K.elements alg.now.k)) }
         ensures few { let L = K.lawful alg.now.k in
             IfOk result (λ r. length r ≤ y_degree L alg.now.f) }
+        ensures value { let F = K.elements alg.now.k in let L = K.lawful alg.now.k in
+            let W = plane_of F self.now.power in let G = plane_of F self.now.multiplier in
+            IfOk result (λ r. IsProductOver L alg.now.f order.now W G (plane_of F r)) }
     {
         let _index = i;
         let k = &alg.k;
@@ -117,6 +128,8 @@ impl Powers {
         ensures shape { let F = K.elements alg.now.k in let L = K.lawful alg.now.k in
             let l = pred (length modulus.now) in
             IfOk result (λ r. HasShape F.ring (y_degree L alg.now.f) l (plane_of F r)) }
+        ensures value { let L = K.lawful alg.now.k in
+            IfOk result (IsNextPlane L alg.now.f order.now self.now modulus.now) }
     {
         let raised = self.raised(alloc, alg, order, i)?;
         residues(alloc, &alg.k, &raised, modulus)
@@ -132,8 +145,10 @@ impl Powers {
     ) -> Result<Powers, NoMemory>
         requires order { IsOrder (K.lawful alg.now.k) alg.now.f order.now }
         requires form { let L = K.lawful alg.now.k in HasPowersForm L alg.now.f order.now i self }
-        ensures { let L = K.lawful alg.now.k in
+        ensures form { let L = K.lawful alg.now.k in
             IfOk result (HasPowersForm L alg.now.f order.now (i + 1)) }
+        ensures exact { let L = K.lawful alg.now.k in
+            IfOk result (IsNextPower L alg.now.f order.now i self) }
     {
         let modulus = self.modulus.mul(alloc, &alg.k, &self.root)?;
         let power = self.next(alloc, alg, order, i, &modulus)?;

@@ -1,13 +1,18 @@
 // Orders by smaller denominators.
 ghost use Rattle.std.specs.Prelude.{◌≡◌, ℕ, ◌*◌, ◌<◌, pred, length, IfOk};
 ghost use Rattle.std.specs.List.{All};
-ghost use Rattle.ff_theory.specs.Vector.{IsVector};
+ghost use Rattle.ff_theory.specs.Vector.{vector_of, IsVector};
 ghost use Rattle.ff_theory.specs.Divides.{Divides};
-ghost use Rattle.ff_theory.specs.Values.{poly_of, IsPoly, polys_over, ArePolys};
-ghost use Rattle.ff_lin.specs.Space.{AreVectors, IsSpaceOf};
+ghost use Rattle.ff_theory.specs.Values.{poly_of, IsPoly, polys_over, plane_of};
+ghost use Rattle.ff_theory.specs.Values.{ArePolys};
+ghost use Rattle.ff_lin.specs.Space.{rows_of, AreVectors, IsSpaceOf};
 ghost use Rattle.ff_data.specs.Orders.{chart_of, y_degree, IsOrder};
 ghost use Rattle.ff_data.specs.Lattices.{IsLattice};
 ghost use Rattle.ff_data.specs.Vectors.{IsPlaneWithin};
+ghost use Rattle.ff_frac.specs.Places.{IsOrderLattice};
+ghost use Rattle.ff_frac.specs.Shrinking.{DividesRows, DividesPlanes, HavePlanes, AreBasisPlanes};
+ghost use Rattle.ff_frac.specs.Shrinking.{IsQuotientVector, HasMultiple, HaveMultiples};
+ghost use Rattle.ff_frac.specs.Shrinking.{AreQuotientVectors, IsQuotientSpace, IsSameOrder};
 
 use crate::module::span_of;
 use ff_alg::{FiniteField, NoMemory};
@@ -27,8 +32,11 @@ fn planes_of<K: FiniteField<E = u32>>(
 ) -> Result<Vec<Plane>, NoMemory>
     requires { let L = K.lawful alg.now.k in
         AreVectors (K.elements alg.now.k) (y_degree L alg.now.f * l) vectors.now }
-    ensures { let F = K.elements alg.now.k in let L = K.lawful alg.now.k in
+    ensures len { IfOk result (λ r. length r.items ≡ length vectors.now) }
+    ensures planes { let F = K.elements alg.now.k in let L = K.lawful alg.now.k in
         IfOk result (λ r. All (IsPlaneWithin F (y_degree L alg.now.f)) r.items) }
+    ensures value { let F = K.elements alg.now.k in let L = K.lawful alg.now.k in
+        IfOk result (λ r. HavePlanes F (y_degree L alg.now.f) l (rows_of vectors.now) r.items) }
 {
     let n = alg.f.rows().len() - 1;
     let mut planes = Vec::new(alloc);
@@ -45,8 +53,11 @@ fn planes<K: FiniteField<E = u32>>(
     order: &Order,
 ) -> Result<Vec<Plane>, NoMemory>
     requires order { IsOrder (K.lawful alg.now.k) alg.now.f order.now }
-    ensures { let F = K.elements alg.now.k in let L = K.lawful alg.now.k in
+    ensures planes { let F = K.elements alg.now.k in let L = K.lawful alg.now.k in
         IfOk result (λ r. All (IsPlaneWithin F (y_degree L alg.now.f)) r.items) }
+    ensures value { let F = K.elements alg.now.k in let L = K.lawful alg.now.k in
+        let l = pred (length order.now.d) in IfOk result (λ r. AreBasisPlanes F
+        (y_degree L alg.now.f) l order.now.space.basis r.items) }
 {
     let l = order.d.coeffs().len() - 1;
     planes_of(alloc, alg, l, order.space.basis())
@@ -66,6 +77,8 @@ fn divisor<K: FiniteField<E = u32>>(
     ensures nonzero { IfOk result (λ r. 0 < length r) }
     ensures divides { let F = K.elements k.now in
         IfOk result (λ r. Divides (polys_over F) (poly_of F r) (poly_of F d)) }
+    ensures each { let F = K.elements k.now in
+        IfOk result (λ r. DividesRows F (poly_of F r) rows.now) }
 {
     let mut divisor = d;
     for row in rows {
@@ -89,6 +102,8 @@ fn common_divisor<K: FiniteField<E = u32>>(
     ensures nonzero { IfOk result (λ r. 0 < length r) }
     ensures divides { let F = K.elements alg.now.k in
         IfOk result (λ r. Divides (polys_over F) (poly_of F r) (poly_of F d.now)) }
+    ensures each { let F = K.elements alg.now.k in
+        IfOk result (λ r. DividesPlanes F (poly_of F r) planes.now) }
 {
     let mut common = d.copy(alloc)?;
     for plane in planes {
@@ -97,7 +112,38 @@ fn common_divisor<K: FiniteField<E = u32>>(
     Ok(common)
 }
 
-/// The quotient of d by a divisor, which in the infinite chart is a power of t.
+/// A modulus of the chart that divides a divisor of one: in the infinite chart a power of t.
+fn chart_divisor<K: FiniteField<E = u32>>(
+    alloc: Global,
+    alg: &Alg<K>,
+    chart: Chart,
+    d: &Poly,
+    by: &Poly,
+) -> Result<Poly, NoMemory>
+    requires d { let F = K.elements alg.now.k in let L = K.lawful alg.now.k in
+        (chart_of L alg.now.f chart).IsModulus (poly_of F d.now) }
+    requires by { IsPoly (K.elements alg.now.k) by.now }
+    requires by_nonzero { 0 < length by.now }
+    requires divides { let F = K.elements alg.now.k in
+        Divides (polys_over F) (poly_of F by.now) (poly_of F d.now) }
+    ensures poly { IfOk result (IsPoly (K.elements alg.now.k)) }
+    ensures nonzero { IfOk result (λ r. 0 < length r) }
+    ensures modulus { let F = K.elements alg.now.k in let L = K.lawful alg.now.k in
+        IfOk result (λ r. (chart_of L alg.now.f chart).IsModulus (poly_of F r)) }
+    ensures divides { let F = K.elements alg.now.k in
+        IfOk result (λ r. Divides (polys_over F) (poly_of F r) (poly_of F by.now)) }
+{
+    let _of = d;
+    match chart {
+        Chart::Finite => by.copy(alloc),
+        Chart::Infinite => {
+            let m = by.coeffs().len() - 1;
+            variable_power(alloc, &alg.k, m)
+        },
+    }
+}
+
+/// The quotient of a modulus of the chart by another one.
 fn modulus<K: FiniteField<E = u32>>(
     alloc: Global,
     alg: &Alg<K>,
@@ -111,9 +157,15 @@ fn modulus<K: FiniteField<E = u32>>(
     requires by_nonzero { 0 < length by.now }
     requires divides { let F = K.elements alg.now.k in
         Divides (polys_over F) (poly_of F by.now) (poly_of F d.now) }
+    requires modulus { let F = K.elements alg.now.k in let L = K.lawful alg.now.k in
+        (chart_of L alg.now.f chart).IsModulus (poly_of F d.now) }
+    requires by_modulus { let F = K.elements alg.now.k in let L = K.lawful alg.now.k in
+        (chart_of L alg.now.f chart).IsModulus (poly_of F by.now) }
     ensures poly { IfOk result (IsPoly (K.elements alg.now.k)) }
     ensures modulus { let F = K.elements alg.now.k in let L = K.lawful alg.now.k in
         IfOk result (λ r. (chart_of L alg.now.f chart).IsModulus (poly_of F r)) }
+    ensures product { let F = K.elements alg.now.k in let P = polys_over F in
+        IfOk result (λ r. poly_of F d.now ≡ P.mul (poly_of F by.now) (poly_of F r)) }
 {
     let (quotient, _zero) = d.divide(alloc, &alg.k, by)?;
     match chart {
@@ -139,8 +191,12 @@ fn quotient_vector<K: FiniteField<E = u32>>(
     requires by_nonzero { 0 < length by.now }
     requires m { IsPoly (K.elements alg.now.k) m.now }
     requires nonzero { 0 < length m.now }
-    ensures { let L = K.lawful alg.now.k in let n = y_degree L alg.now.f in
+    ensures vector { let L = K.lawful alg.now.k in let n = y_degree L alg.now.f in
         IfOk result (λ r. IsVector (K.elements alg.now.k) (n * pred (length m.now)) r.items) }
+    ensures value { let F = K.elements alg.now.k in let L = K.lawful alg.now.k in
+        let n = y_degree L alg.now.f in let g = poly_of F by.now in
+        HasMultiple F n by.now m.now plane.now → IfOk result (λ r.
+        IsQuotientVector F n (pred (length m.now)) g (plane_of F plane.now) (vector_of F r.items)) }
 {
     let l = m.coeffs().len() - 1;
     let quotient = quotients_by(alloc, &alg.k, plane, by)?;
@@ -162,8 +218,12 @@ fn quotient_vectors<K: FiniteField<E = u32>>(
     requires by_nonzero { 0 < length by.now }
     requires m { IsPoly (K.elements alg.now.k) m.now }
     requires nonzero { 0 < length m.now }
-    ensures { let L = K.lawful alg.now.k in let n = y_degree L alg.now.f in
+    ensures len { IfOk result (λ r. length r.items ≡ length planes.now) }
+    ensures vectors { let L = K.lawful alg.now.k in let n = y_degree L alg.now.f in
         IfOk result (λ r. AreVectors (K.elements alg.now.k) (n * pred (length m.now)) r.items) }
+    ensures value { let F = K.elements alg.now.k in let L = K.lawful alg.now.k in
+        let n = y_degree L alg.now.f in HaveMultiples F n by.now m.now planes.now →
+        IfOk result (λ r. AreQuotientVectors F n by.now m.now planes.now r.items) }
 {
     let mut list = Vec::with_capacity(alloc, planes.len())?;
     for plane in planes {
@@ -186,8 +246,11 @@ fn quotient_space<K: FiniteField<E = u32>>(
     requires by_nonzero { 0 < length by.now }
     requires m { IsPoly (K.elements alg.now.k) m.now }
     requires nonzero { 0 < length m.now }
-    ensures { let L = K.lawful alg.now.k in let n = y_degree L alg.now.f in
+    ensures space { let L = K.lawful alg.now.k in let n = y_degree L alg.now.f in
         IfOk result (IsSpaceOf (K.elements alg.now.k) (n * pred (length m.now))) }
+    ensures value { let F = K.elements alg.now.k in let L = K.lawful alg.now.k in
+        let n = y_degree L alg.now.f in HaveMultiples F n by.now m.now planes.now →
+        IfOk result (IsQuotientSpace F n by.now m.now planes.now) }
 {
     let l = m.coeffs().len() - 1;
     let vectors = quotient_vectors(alloc, alg, planes, by, m)?;
@@ -205,10 +268,16 @@ fn divided<K: FiniteField<E = u32>>(
     requires order { IsOrder (K.lawful alg.now.k) alg.now.f order.now }
     requires planes { let F = K.elements alg.now.k in let L = K.lawful alg.now.k in
         All (IsPlaneWithin F (y_degree L alg.now.f)) planes.now }
-    ensures { let L = K.lawful alg.now.k in
+    requires basis { let F = K.elements alg.now.k in let L = K.lawful alg.now.k in
+        let l = pred (length order.now.d) in
+        AreBasisPlanes F (y_degree L alg.now.f) l order.now.space.basis planes.now }
+    ensures lattice { let L = K.lawful alg.now.k in
         IfOk result (λ r. IsLattice L alg.now.f order.now.chart r.0 r.1) }
+    ensures same { let L = K.lawful alg.now.k in
+        IfOk result (λ r. IsOrderLattice L alg.now.f order.now r.0 r.1) }
 {
-    let by = common_divisor(alloc, alg, &order.d, planes)?;
+    let common = common_divisor(alloc, alg, &order.d, planes)?;
+    let by = chart_divisor(alloc, alg, order.chart, &order.d, &common)?;
     let d = modulus(alloc, alg, order.chart, &order.d, &by)?;
     let space = quotient_space(alloc, alg, planes, &by, &d)?;
     Ok((d, space))
@@ -224,6 +293,8 @@ pub fn shrunk<K: FiniteField<E = u32>>(
     requires order { IsOrder (K.lawful alg.now.k) alg.now.f order.now }
     ensures chart { IfOk result (λ r. r.chart ≡ order.now.chart) }
     ensures form { IfOk result (IsOrder (K.lawful alg.now.k) alg.now.f) }
+    ensures same { let L = K.lawful alg.now.k in
+        IfOk result (IsSameOrder L alg.now.f order.now) }
 {
     let planes = planes(alloc, alg, order)?;
     let (d, space) = divided(alloc, alg, order, &planes)?;

@@ -6,3 +6,17 @@ pub mod PlaneLemmas
 pub mod FoundLemmas
 -- Parts of a vector
 pub mod VectorLemmas
+-- Steps of an elimination
+pub mod RowLemmas
+-- Rows that hold images
+pub mod HeldImages
+-- Images that are whole
+pub mod ShortImages
+-- Images of elements
+pub mod ElementImages
+-- The next numerator
+pub mod NumeratorImages
+-- Pole numbers, with one order more
+pub mod NumberLemmas
+-- A search with one power more
+pub mod SearchImages

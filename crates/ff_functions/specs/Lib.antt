@@ -1,3 +1,7 @@
+-- The meaning of rows
+pub mod Rows
+-- Residues at infinity as vectors
+pub mod Images
 -- The forms of what a search for functions holds
 pub mod Searches
 -- The functions that a search found

@@ -1,8 +1,10 @@
 // Rows in echelon form that remember which vectors they came from.
-ghost use Rattle.std.specs.Prelude.{◌≡◌, ℕ, ◌+◌, ◌<◌, ◌≤◌, length, IfOk, IfSome};
+ghost use Rattle.std.specs.Prelude.{◌≡◌, ℕ, ◌+◌, ◌<◌, ◌≤◌, [], length, IfOk, IfSome};
 ghost use Rattle.std.specs.List.{All};
 ghost use Rattle.ff_theory.specs.Ring.{IsElement};
 ghost use Rattle.ff_theory.specs.Vector.{vector_of, IsVector};
+ghost use Rattle.ff_functions.specs.Rows.{IsCleared, IsReduced, pivot_at, IsExtended, IsInserted};
+ghost use Rattle.ff_functions.specs.Rows.{IsSpannedWith};
 
 use ff_alg::{FiniteField, NoMemory, is_zero};
 use std::alloc::Global;
@@ -33,6 +35,8 @@ impl Row {
         requires c { All (IsElement (K.elements k.now)) c.old }
         ensures vector { IsVector (K.elements k.now) (length v.old) v.new }
         ensures coefficients { IsVector (K.elements k.now) (length c.old) c.new }
+        ensures value { let F = K.elements k.now in let V = vector_of F in
+            IsCleared F self.now (V v.old) (V c.old) (V v.new) (V c.new) }
     {
         let factor = k.neg(v[self.pivot]);
         if is_zero(k, factor) {
@@ -49,6 +53,8 @@ fn leading_index<K: FiniteField<E = u32>>(k: &K, v: &[u32]) -> usize
     ensures within { result ≤ length v.now }
     ensures nonzero { let F = K.elements k.now in
         result < length v.now → ¬ (vector_of F v.now result ≡ F.zero) }
+    ensures before { let F = K.elements k.now in
+        (j : ℕ) → j < result → vector_of F v.now j ≡ F.zero }
 {
     for j in 0..v.len() {
         if !is_zero(k, v[j]) {
@@ -71,6 +77,8 @@ fn scaled_tail<K: FiniteField<E = u32>>(
     requires start { start ≤ length v.now }
     ensures len { IfOk result (λ r. start + length r.items ≡ length v.now) }
     ensures each { IfOk result (λ r. All (IsElement (K.elements k.now)) r.items) }
+    ensures value { let F = K.elements k.now in IfOk result (λ r. (i : ℕ) →
+        vector_of F r.items i ≡ F.mul (F.value c) (vector_of F v.now (start + i))) }
 {
     let mut list = Vec::with_capacity(alloc, v.len())?;
     for j in start..v.len() {
@@ -84,7 +92,7 @@ impl Echelon {
 
     /// Without rows.
     pub(crate) fn new(alloc: Global) -> Echelon
-        ensures { length result.rows.items ≡ 0 }
+        ensures { result.rows.items ≡ [] }
     {
         Echelon {
             rows: Vec::new(alloc),
@@ -99,6 +107,9 @@ impl Echelon {
         requires c { All (IsElement (K.elements k.now)) c.old }
         ensures vector { IsVector (K.elements k.now) (length v.old) v.new }
         ensures coefficients { IsVector (K.elements k.now) (length c.old) c.new }
+        ensures value { let F = K.elements k.now in let V = vector_of F in
+            let rows = self.now.rows.items in
+            IsReduced F rows (length rows) (V v.old) (V c.old) (V v.new) (V c.new) }
     {
         for row in &self.rows {
             row.clear(k, v, c);
@@ -118,6 +129,9 @@ impl Echelon {
         requires c { All (IsElement (K.elements k.now)) c.items }
         ensures vector { IsVector (K.elements k.now) (length v.items) result.0.items }
         ensures coefficients { IsVector (K.elements k.now) (length c.items) result.1.items }
+        ensures value { let F = K.elements k.now in let V = vector_of F in
+            let rows = self.now.rows.items in IsReduced F rows (length rows) (V v.items)
+            (V c.items) (V result.0.items) (V result.1.items) }
     {
         let mut v = v;
         let mut c = c;
@@ -139,8 +153,14 @@ impl Echelon {
         requires c { All (IsElement (K.elements k.now)) c.now }
         requires pivot { pivot < length v.now }
         requires nonzero { let F = K.elements k.now in ¬ (vector_of F v.now pivot ≡ F.zero) }
-        ensures { IfOk result (λ r. AreRows (K.elements k.now) (length v.now) (length c.now)
+        requires before { let F = K.elements k.now in
+            (j : ℕ) → j < pivot → vector_of F v.now j ≡ F.zero }
+        requires cleared { let F = K.elements k.now in (i : ℕ) → i < length self.rows.items →
+            vector_of F v.now (pivot_at F self.rows.items i) ≡ F.zero }
+        ensures rows { IfOk result (λ r. AreRows (K.elements k.now) (length v.now) (length c.now)
             r.rows.items) }
+        ensures value { let F = K.elements k.now in let V = vector_of F in IfOk result
+            (λ r. IsExtended F self.rows.items (V v.now) (V c.now) r.rows.items) }
     {
         let factor = k.inv(v[pivot]);
         let tail = scaled_tail(alloc, k, v, pivot, factor)?;
@@ -171,6 +191,8 @@ impl Echelon {
             (length c.items) r.0.rows.items) }
         ensures relation { IfOk result (λ r. IfSome r.1 (λ s.
             IsVector (K.elements k.now) (length c.items) s.items)) }
+        ensures value { let F = K.elements k.now in let V = vector_of F in IfOk result
+            (λ r. IsInserted F self.rows.items (V v.items) (V c.items) r.0.rows.items r.1) }
     {
         let (v, c) = self.reduced(k, v, c);
         let pivot = leading_index(k, &v);
@@ -190,7 +212,9 @@ impl Echelon {
     ) -> Result<Echelon, NoMemory>
         requires rows { AreRows (K.elements k.now) (length v.now) 0 self.rows.items }
         requires v { All (IsElement (K.elements k.now)) v.now }
-        ensures { IfOk result (λ r. AreRows (K.elements k.now) (length v.now) 0 r.rows.items) }
+        ensures rows { IfOk result (λ r. AreRows (K.elements k.now) (length v.now) 0 r.rows.items) }
+        ensures value { let F = K.elements k.now in IfOk result
+            (λ r. IsSpannedWith F self.rows.items (vector_of F v.now) r.rows.items) }
     {
         let row = Vec::from_slice(alloc, v)?;
         let (echelon, _relation) = self.insert(alloc, k, row, Vec::new(alloc))?;

@@ -1,10 +1,11 @@
 // What is combined: numerators of elements of the finite order, and the rows that hold their images
 // modulo the infinite order.
-ghost use Rattle.std.specs.Prelude.{◌≡◌, ℕ, ◌+◌, ◌*◌, ◌-◌, ◌<◌, ◌≤◌, pred, length, IfOk};
+ghost use Rattle.std.specs.Prelude.{◌≡◌, ℕ, ◌+◌, ◌*◌, ◌-◌, ◌<◌, ◌≤◌, List, pred, length, IfOk};
 ghost use Rattle.std.specs.List.{All};
 ghost use Rattle.ff_theory.specs.Ring.{IsElement};
 ghost use Rattle.ff_theory.specs.Values.{IsPoly};
-ghost use Rattle.ff_theory.specs.Vector.{IsVector};
+ghost use Rattle.ff_theory.specs.Vector.{vector_of, IsVector};
+ghost use Rattle.ff_theory.specs.Span.{unit_at};
 ghost use Rattle.ff_lin.specs.Space.{AreVectors, IsSpaceOf};
 ghost use Rattle.ff_data.specs.declared.order.Chart.TheVariants.{Finite, Infinite};
 ghost use Rattle.ff_data.specs.Orders.{y_degree, slope_of, IsOrder};
@@ -31,7 +32,9 @@ pub struct Frame {
 
 /// `n` zeros.
 fn zeros<K: FiniteField<E = u32>>(alloc: Global, k: &K, n: usize) -> Result<Vec<u32>, NoMemory>
-    ensures { IfOk result (λ v. IsVector (K.elements k.now) n v.items) }
+    ensures vector { IfOk result (λ v. IsVector (K.elements k.now) n v.items) }
+    ensures value { let F = K.elements k.now in
+        IfOk result (λ v. (i : ℕ) → vector_of F v.items i ≡ F.zero) }
 {
     let mut zeros = Vec::with_capacity(alloc, n)?;
     for _j in 0..n {
@@ -46,7 +49,9 @@ pub(crate) fn unit<K: FiniteField<E = u32>>(
     k: &K,
     n: usize,
 ) -> Result<Vec<u32>, NoMemory>
-    ensures { IfOk result (λ v. IsVector (K.elements k.now) (n + 1) v.items) }
+    ensures vector { IfOk result (λ v. IsVector (K.elements k.now) (n + 1) v.items) }
+    ensures value { let F = K.elements k.now in
+        IfOk result (λ v. (i : ℕ) → vector_of F v.items i ≡ unit_at F.ring n i) }
 {
     let mut unit = zeros(alloc, k, n)?;
     unit.push(k.one())?;
@@ -190,6 +195,8 @@ fn image_rows<K: FiniteField<E = u32>>(
 ) -> Result<usize, NoMemory>
     ensures positive { IfOk result (λ h. 0 < h) }
     ensures least { IfOk result (λ h. m ≤ h) }
+    ensures steep { let L = K.lawful alg.now.k in
+        IfOk result (λ h. (y_degree L alg.now.f - 1) * slope ≤ h) }
 {
     match (alg.f.rows().len() - 2).checked_mul(slope as usize) {
         Some(h) => Ok(h.max(m).max(1)),
@@ -223,7 +230,9 @@ fn numerators<K: FiniteField<E = u32>>(
 }
 
 impl Frame {
-    ghost use Rattle.ff_functions.specs.Searches.{AreRows, HasFrameForm};
+    ghost use Rattle.ff_functions.specs.Rows.{HoldImages};
+    ghost use Rattle.ff_functions.specs.Searches.{AreRows, HasFrameForm, HoldNumerators};
+    ghost use Rattle.ff_data.specs.declared.order.Order.{Order};
 
     /// The frame for elements of the finite order with poles of order m at most at infinity.
     pub(crate) fn new<K: FiniteField<E = u32>>(
@@ -260,7 +269,10 @@ impl Frame {
         len: usize,
     ) -> Result<Echelon, NoMemory>
         requires { IsSpaceOf (K.elements alg.now.k) len space.now }
-        ensures { IfOk result (λ r. AreRows (K.elements alg.now.k) len 0 r.rows.items) }
+        ensures rows { IfOk result (λ r. AreRows (K.elements alg.now.k) len 0 r.rows.items) }
+        ensures held { let F = K.elements alg.now.k in
+            IfOk result (λ r. (images : ℕ → ℕ → F.carrier) →
+            HoldImages F space.now 0 images r.rows.items) }
     {
         let _len = len;
         let mut echelon = Echelon::new(alloc);
@@ -280,8 +292,10 @@ impl Frame {
         requires order { IsOrder (K.lawful alg.now.k) alg.now.f infinite.now }
         requires form { HasFrameForm (K.lawful alg.now.k) alg.now.f self.now }
         requires room { pred (length infinite.now.d) ≤ self.now.h }
-        ensures { let L = K.lawful alg.now.k in let n = y_degree L alg.now.f in
+        ensures rows { let L = K.lawful alg.now.k in let n = y_degree L alg.now.f in
             IfOk result (λ r. AreRows (K.elements alg.now.k) (n * self.now.h) 0 r.rows.items) }
+        ensures held { let L = K.lawful alg.now.k in IfOk result (λ r. (d : List ℕ) →
+            HoldNumerators L alg.now.f self.now d infinite.now 0 r.rows.items) }
     {
         let m = infinite.d.coeffs().len() - 1;
         let space = power_times_space(alloc, alg, m, &infinite.space, self.h)?;
@@ -301,8 +315,11 @@ impl Frame {
         requires order { IsOrder (K.lawful alg.now.k) alg.now.f infinite.now }
         requires form { HasFrameForm (K.lawful alg.now.k) alg.now.f self.now }
         requires room { pred (length infinite.now.d) ≤ self.now.h }
-        ensures { let L = K.lawful alg.now.k in let n = y_degree L alg.now.f in
+        ensures rows { let L = K.lawful alg.now.k in let n = y_degree L alg.now.f in
             IfOk result (λ r. AreRows (K.elements alg.now.k) (n * self.now.h)
+            (length self.now.numerators.items) r.rows.items) }
+        ensures held { let L = K.lawful alg.now.k in IfOk result (λ r.
+            HoldNumerators L alg.now.f self.now d.now infinite.now
             (length self.now.numerators.items) r.rows.items) }
     {
         let mut echelon = self.target(alloc, alg, infinite)?;
@@ -327,9 +344,13 @@ impl Frame {
         requires index { i < length self.now.numerators.items }
         requires rows { let L = K.lawful alg.now.k in let n = y_degree L alg.now.f in
             AreRows (K.elements alg.now.k) (n * self.now.h) i echelon.rows.items }
-        ensures { let L = K.lawful alg.now.k in let n = y_degree L alg.now.f in
+        ensures rows { let L = K.lawful alg.now.k in let n = y_degree L alg.now.f in
             IfOk result (λ r. AreRows (K.elements alg.now.k) (n * self.now.h) (i + 1)
             r.rows.items) }
+        ensures held { let L = K.lawful alg.now.k in let f = alg.now.f in
+            IfOk result (λ r. (o : Order) →
+            HoldNumerators L f self.now d.now o i echelon.rows.items →
+            HoldNumerators L f self.now d.now o (i + 1) r.rows.items) }
     {
         let v = &self.numerators[i];
         let image = image(alloc, alg, self.slope, self.h, v, self.l, d)?;

@@ -1,8 +1,12 @@
 // The residues at infinity of elements by their numerators.
 ghost use Rattle.std.specs.Prelude.{◌≡◌, ℕ, ◌+◌, ◌*◌, ◌<◌, ◌≤◌, pred, length, IfOk};
-ghost use Rattle.ff_theory.specs.Values.{IsPoly};
-ghost use Rattle.ff_theory.specs.Vector.{IsVector};
+ghost use Rattle.ff_theory.specs.Ring.{power};
+ghost use Rattle.ff_theory.specs.Monomial.{variable};
+ghost use Rattle.ff_theory.specs.Values.{IsPoly, polys_over};
+ghost use Rattle.ff_theory.specs.Vector.{vector_of, IsVector};
 ghost use Rattle.ff_data.specs.Orders.{y_degree, slope_of};
+ghost use Rattle.ff_common.specs.Common.{IsImage, IsTimesVector};
+ghost use Rattle.ff_functions.specs.Images.{IsShortOver};
 
 use ff_alg::{FiniteField, NoMemory};
 use ff_common::{quotient_rows, reversed_vector, times_vector};
@@ -28,8 +32,12 @@ pub(crate) fn image<K: FiniteField<E = u32>>(
         IsVector (K.elements alg.now.k) (y_degree L alg.now.f * l) v.now }
     requires d { IsPoly (K.elements alg.now.k) d.now }
     requires nonzero { 0 < length d.now }
-    ensures { let L = K.lawful alg.now.k in
+    ensures vector { let L = K.lawful alg.now.k in
         IfOk result (λ r. IsVector (K.elements alg.now.k) (y_degree L alg.now.f * h) r.items) }
+    ensures value { let F = K.elements alg.now.k in let L = K.lawful alg.now.k in
+        let f = alg.now.f in let V = vector_of F v.now in
+        IfOk result (λ r. IsShortOver L f d.now l h V → IsImage L f d.now l h V
+        (vector_of F r.items)) }
 {
     let by = raise(alloc, &alg.k, d, 1)?;
     let quotients = quotient_rows(alloc, alg, slope, &by, l, v)?;
@@ -49,8 +57,11 @@ pub(crate) fn raised<K: FiniteField<E = u32>>(
     requires room { s + m ≤ h }
     requires vector { let L = K.lawful alg.now.k in
         IsVector (K.elements alg.now.k) (y_degree L alg.now.f * m) v.now }
-    ensures { let L = K.lawful alg.now.k in
+    ensures vector { let L = K.lawful alg.now.k in
         IfOk result (λ r. IsVector (K.elements alg.now.k) (y_degree L alg.now.f * h) r.items) }
+    ensures value { let F = K.elements alg.now.k in let L = K.lawful alg.now.k in
+        let f = alg.now.f in let X = power (polys_over F) (variable F.ring) s in
+        IfOk result (λ r. IsTimesVector L f X m h (vector_of F v.now) (vector_of F r.items)) }
 {
     let factor = variable_power(alloc, &alg.k, s)?;
     times_vector(alloc, alg, &factor, m, h, v)

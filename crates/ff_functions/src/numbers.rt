@@ -1,6 +1,9 @@
 // The least pole numbers in their classes modulo the first.
 ghost use Rattle.std.specs.Prelude.{◌≡◌, ℕ, ◌+◌, ◌%◌, ◌<◌, ◌≤◌, length, get_or, IfOk, IfSome};
-ghost use Rattle.std.specs.Prelude.{IsTrue};
+ghost use Rattle.std.specs.Prelude.{IsTrue, Bool, true, false, pred};
+ghost use Rattle.ff_lin.specs.Space.{SpaceParts};
+ghost use Rattle.ff_functions.specs.Searches.{IsVerdict, IsDecided, AreNumbers};
+ghost use Rattle.ff_functions.specs.Searches.{HasNumber, AgreesAt};
 ghost use Rattle.std.specs.List.{All};
 ghost use Rattle.ff_theory.specs.Ring.{Elements};
 ghost use Rattle.ff_theory.specs.Vector.{IsVector};
@@ -34,7 +37,8 @@ pub(crate) fn class_index(numbers: &[PoleNumber], e: u32, i: u32) -> usize
 /// Whether each class modulo the first number has one.
 pub(crate) fn is_complete(numbers: &[PoleNumber]) -> bool
     requires { All (λ p. 0 < p.j) numbers.now }
-    ensures { IsTrue result → IsComplete numbers.now }
+    ensures yes { IsTrue result → IsComplete numbers.now }
+    ensures no { result ≡ false → ¬ IsComplete numbers.now }
 {
     if numbers.len() == 0 {
         return false;
@@ -51,6 +55,11 @@ pub(crate) fn is_complete(numbers: &[PoleNumber]) -> bool
 /// Whether j is the first in its class modulo the first number.
 fn is_first(numbers: &[PoleNumber], j: u32) -> bool
     requires { All (λ p. 0 < p.j) numbers.now }
+    ensures yes { result ≡ true → 0 < length numbers.now → (d : PoleNumber) →
+        let e = (get_or numbers.now 0 d).j in ¬ (HasClass numbers.now e (j % e)) }
+    ensures some { result ≡ false → 0 < length numbers.now }
+    ensures no { result ≡ false → (d : PoleNumber) →
+        let e = (get_or numbers.now 0 d).j in HasClass numbers.now e (j % e) }
 {
     if numbers.len() == 0 {
         return true;
@@ -72,8 +81,15 @@ pub(crate) fn with_relation<K: FiniteField<E = u32>>(
     requires positive { 0 < j }
     requires relation { let F = K.elements k.now in
         IfSome relation (λ r. IsVector F (c + j) r.items) }
-    ensures { let F = K.elements k.now in
+    ensures form { let F = K.elements k.now in
         IfOk result (λ r. All (IsNumber F c j) r.0.items) }
+    ensures numbers { let F = K.elements k.now in
+        IfOk result (λ r. (t : SpaceParts) (images : ℕ → ℕ → F.carrier) →
+        IsVerdict F t c images j relation → AreNumbers F t c images (pred j) numbers.items →
+        AreNumbers F t c images j r.0.items) }
+    ensures decided { let F = K.elements k.now in
+        IfOk result (λ r. (t : SpaceParts) (images : ℕ → ℕ → F.carrier) →
+        IsVerdict F t c images j relation → IsDecided F t c images j r.1) }
 {
     let _field = k;
     let _count = c;
@@ -93,6 +109,8 @@ pub(crate) fn with_relation<K: FiniteField<E = u32>>(
 fn has_number(s: &System, j: u32) -> bool
     requires positive { 0 < s.now.e }
     requires count { length s.now.weights ≡ s.now.e }
+    ensures yes { result ≡ true → HasNumber s.now j }
+    ensures no { result ≡ false → ¬ HasNumber s.now j }
 {
     let i = (j % s.e) as usize;
     s.weights.items[i] <= j
@@ -102,6 +120,7 @@ fn has_number(s: &System, j: u32) -> bool
 /// no system.
 pub(crate) fn agrees(like: Option<&System>, j: u32, is_number: bool) -> bool
     requires { IfSome like (λ s. HasWeights s.now) }
+    ensures { result ≡ false → ¬ (IfSome like.entry (λ s. AgreesAt s.now j is_number)) }
 {
     match like {
         None => true,

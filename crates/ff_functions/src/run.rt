@@ -5,7 +5,7 @@ ghost use Rattle.ff_data.specs.Orders.{y_degree, IsOrder};
 ghost use Rattle.ff_forms.specs.Forms.{HasPointForm, HasFunctionsForm};
 ghost use Rattle.ff_forms.specs.declared.functions.TheConstants.{POLE_LIMIT};
 ghost use Rattle.ff_functions.specs.Searches.{HasWeights, HasFrameForm, HasSearchForm};
-ghost use Rattle.ff_functions.specs.Searches.{IsOutcome};
+ghost use Rattle.ff_functions.specs.Searches.{IsOutcome, IsBegun};
 ghost use Rattle.ff_functions.specs.Answers.{IsAnswer};
 
 use crate::answer::Answer;
@@ -52,9 +52,11 @@ fn first_search<K: FiniteField<E = u32>>(
     requires point { HasPointForm (K.elements alg.now.k) order.now point.now }
     requires frame { HasFrameForm (K.lawful alg.now.k) alg.now.f frame.now }
     requires room { pred (length infinite.now.d) ≤ frame.now.h }
-    ensures { let L = K.lawful alg.now.k in let n = y_degree L alg.now.f in IfOk result
+    ensures form { let L = K.lawful alg.now.k in let n = y_degree L alg.now.f in IfOk result
         (HasSearchForm L alg.now.f order.now (n * frame.now.h)
         (length frame.now.numerators.items) 1 0) }
+    ensures begun { let L = K.lawful alg.now.k in let d = finite.now.d in
+        IfOk result (IsBegun L alg.now.f order.now frame.now d infinite.now) }
 {
     let echelon = frame.start(alloc, alg, &finite.d, infinite)?;
     let powers = Powers::start(alloc, alg, order, point)?;

@@ -1,8 +1,10 @@
 // The search through the pole orders.
 ghost use Rattle.std.specs.Prelude.{◌≡◌, ℕ, ◌+◌, ◌*◌, ◌<◌, ◌≤◌, pred, length, IfOk, IfSome};
+ghost use Rattle.std.specs.Prelude.{[], ◌∷◌, ◌++◌};
 ghost use Rattle.std.specs.List.{All};
 ghost use Rattle.ff_theory.specs.Ring.{IsElement};
-ghost use Rattle.ff_theory.specs.Vector.{IsVector};
+ghost use Rattle.ff_theory.specs.Span.{unit_at};
+ghost use Rattle.ff_theory.specs.Vector.{vector_of, IsVector};
 ghost use Rattle.ff_data.specs.declared.order.Chart.TheVariants.{Infinite};
 ghost use Rattle.ff_data.specs.Orders.{y_degree, IsOrder};
 ghost use Rattle.ff_frac.specs.Powers.{HasPowersForm};
@@ -45,7 +47,7 @@ pub enum Outcome {
 }
 
 impl Trail {
-    ghost use Rattle.ff_functions.specs.Searches.{HasFrameForm, HasTrailForm};
+    ghost use Rattle.ff_functions.specs.Searches.{HasFrameForm, HasTrailForm, IsPowerImage};
 
     /// The image of power i.
     fn image<K: FiniteField<E = u32>>(
@@ -61,8 +63,11 @@ impl Trail {
         requires frame { HasFrameForm (K.lawful alg.now.k) alg.now.f frame.now }
         requires form { HasTrailForm (K.lawful alg.now.k) alg.now.f order.now i m self.now }
         requires room { order.now.chart ≡ Infinite → pred (length order.now.d) + i ≤ frame.now.h }
-        ensures { let L = K.lawful alg.now.k in let n = y_degree L alg.now.f in
+        ensures vector { let L = K.lawful alg.now.k in let n = y_degree L alg.now.f in
             IfOk result (λ r. IsVector (K.elements alg.now.k) (n * frame.now.h) r.items) }
+        ensures value { let F = K.elements alg.now.k in let L = K.lawful alg.now.k in
+            IfOk result (λ r. IsPowerImage L alg.now.f order.now frame.now.h i
+            self.now.powers.power (vector_of F r.items)) }
     {
         let _index = (i, m);
         let d = &self.powers.modulus;
@@ -88,8 +93,10 @@ impl Trail {
         m: usize,
     ) -> Result<Trail, NoMemory>
         requires form { HasTrailForm (K.lawful alg.now.k) alg.now.f order.now i m self }
-        ensures { IfOk result
+        ensures form { IfOk result
             (HasTrailForm (K.lawful alg.now.k) alg.now.f order.now i (m + 1)) }
+        ensures passed { IfOk result
+            (λ r. r.passed.items ≡ self.passed.items ++ self.powers.power ∷ []) }
     {
         let _context = (order.chart, alg.f.rows().len(), i, m);
         let power = self.powers.power.copy(alloc)?;
@@ -112,8 +119,9 @@ impl Trail {
     ) -> Result<Trail, NoMemory>
         requires order { IsOrder (K.lawful alg.now.k) alg.now.f order.now }
         requires form { HasTrailForm (K.lawful alg.now.k) alg.now.f order.now i m self }
-        ensures { IfOk result
+        ensures form { IfOk result
             (HasTrailForm (K.lawful alg.now.k) alg.now.f order.now (i + 1) m) }
+        ensures passed { IfOk result (λ r. r.passed.items ≡ self.passed.items) }
     {
         let _count = m;
         Ok(Trail {
@@ -125,7 +133,8 @@ impl Trail {
 
 impl Search {
     ghost use Rattle.ff_functions.specs.Searches.{HasWeights, IsComplete, HasFrameForm};
-    ghost use Rattle.ff_functions.specs.Searches.{HasSearchForm, IsOutcome};
+    ghost use Rattle.ff_functions.specs.Searches.{HasSearchForm, IsOutcome, IsPowerImage};
+    ghost use Rattle.ff_functions.specs.Searches.{IsLook, Keeps, Ends, AgreesAt};
     ghost use Rattle.ff_forms.specs.declared.functions.TheConstants.{POLE_LIMIT};
 
     /// The search with the row of the image of power j, by c numerators, and whether j is a pole
@@ -145,8 +154,14 @@ impl Search {
             (length image.items) c j (pred j) self }
         requires image { All (IsElement (K.elements alg.now.k)) image.items }
         requires origin { IsVector (K.elements alg.now.k) (c + j) origin.items }
-        ensures { IfOk result (λ r. HasSearchForm (K.lawful alg.now.k) alg.now.f order.now
+        requires unit { let F = K.elements alg.now.k in
+            (i : ℕ) → vector_of F origin.items i ≡ unit_at F.ring (c + pred j) i }
+        ensures form { IfOk result (λ r. HasSearchForm (K.lawful alg.now.k) alg.now.f order.now
             (length image.items) c j j r.0) }
+        ensures held { let F = K.elements alg.now.k in let L = K.lawful alg.now.k in
+            let f = alg.now.f in let o = order.now in let v = vector_of F image.items in
+            IfOk result (λ r. (h : ℕ) → IsPowerImage L f o h j self.trail.powers.power v →
+            IsLook L f o h c j self r.0 r.1) }
     {
         let (echelon, relation) = self.echelon.insert(alloc, &alg.k, image, origin)?;
         let (numbers, is_number) = with_relation(&alg.k, self.numbers, c, j, relation)?;
@@ -177,9 +192,11 @@ impl Search {
         requires form { let L = K.lawful alg.now.k in HasSearchForm L alg.now.f order.now
             (y_degree L alg.now.f * frame.now.h) (length frame.now.numerators.items) j (pred j)
             self }
-        ensures { let L = K.lawful alg.now.k in IfOk result (λ r.
+        ensures form { let L = K.lawful alg.now.k in IfOk result (λ r.
             HasSearchForm L alg.now.f order.now (y_degree L alg.now.f * frame.now.h)
             (length frame.now.numerators.items) j j r.0) }
+        ensures held { let L = K.lawful alg.now.k in let c = length frame.now.numerators.items in
+            IfOk result (λ r. IsLook L alg.now.f order.now frame.now.h c j self r.0 r.1) }
     {
         let i = j as usize;
         let image = self.trail.image(alloc, alg, order, frame, i, i - 1)?;
@@ -200,9 +217,12 @@ impl Search {
         requires order { IsOrder (K.lawful alg.now.k) alg.now.f order.now }
         requires form { let L = K.lawful alg.now.k in HasSearchForm L alg.now.f order.now
             (y_degree L alg.now.f * frame.now.h) (length frame.now.numerators.items) j j self }
-        ensures { let L = K.lawful alg.now.k in IfOk result
+        ensures form { let L = K.lawful alg.now.k in IfOk result
             (HasSearchForm L alg.now.f order.now (y_degree L alg.now.f * frame.now.h)
             (length frame.now.numerators.items) (j + 1) j) }
+        ensures held { let L = K.lawful alg.now.k in let c = length frame.now.numerators.items in
+            IfOk result (Keeps L alg.now.f order.now frame.now.h c j self) }
+        ensures numbers { IfOk result (λ r. r.numbers.items ≡ self.numbers.items) }
     {
         let _frame = frame;
         let i = j as usize;
@@ -231,8 +251,11 @@ impl Search {
             pred (length order.now.d) + bound ≤ frame.now.h }
         requires form { let L = K.lawful alg.now.k in HasSearchForm L alg.now.f order.now
             (y_degree L alg.now.f * frame.now.h) (length frame.now.numerators.items) 1 0 self }
-        ensures { let L = K.lawful alg.now.k in IfOk result (λ r. IsOutcome L alg.now.f order.now
-            (length frame.now.numerators.items) r) }
+        ensures form { let L = K.lawful alg.now.k in IfOk result (λ r. IsOutcome L alg.now.f
+            order.now (length frame.now.numerators.items) r) }
+        ensures held { let L = K.lawful alg.now.k in let c = length frame.now.numerators.items in
+            IfOk result (Ends L alg.now.f order.now frame.now.h c bound
+            (λ j b. IfSome like.entry (λ s. AgreesAt s.now j b)) self) }
     {
         let mut search = self;
         for j in 1..bound + 1 {

@@ -4,3 +4,11 @@ pub mod PairKeys
 pub mod RisingLists
 -- The gap number of a system within the pole limit
 pub mod GapBound
+-- Points of both orders
+pub mod PlaceForms
+-- The last entry of a list
+pub mod Popped
+-- A system by its form
+pub mod FormedSystems
+-- The elements that are not 0
+pub mod SlopeLists

@@ -1,6 +1,6 @@
 -- Lists of entries by rising key, and one entry more at its place.
-use Rattle.std.proofs.Common.{◌≡◌, ℕ, ◌+◌, ◌-◌, ◌<◌, ◌≤◌, ◌⊎◌, List, [], ◌∷◌, length, get_or, All}
-use Rattle.std.proofs.Common.{refl, sym, ◌∙◌, ap, ap₂, subst, arith, ⊎_elim}
+use Rattle.std.proofs.Common.{◌≡◌, ℕ, ◌+◌, ◌-◌, ◌<◌, ◌≤◌, List, [], length, get_or, All}
+use Rattle.std.proofs.Common.{sym, ◌∙◌, ap, ap₂, subst, arith, ⊎_elim}
 use Rattle.std.proofs.lemmas.Bool.{cases_lt}
 use Rattle.std.proofs.lemmas.List.Edits.{length-insert, get_or-insert_below, get_or-insert_at}
 use Rattle.std.proofs.lemmas.List.Edits.{get_or-insert_above}
@@ -11,7 +11,7 @@ use Rattle.ff_theory.specs.Ring.{Elements}
 use Rattle.ff_theory.specs.Lawful.{Lawful}
 use Rattle.ff_elem.specs.Key.{key_cmp}
 use Rattle.ff_data.specs.declared.pair.Entry.{Entry}
-use Rattle.ff_data.specs.Lists.{IsEntry, pair_key, key_at}
+use Rattle.ff_data.specs.Lists.{IsEntry, pair_key}
 use Rattle.ff_list.specs.Lists.{IsTrueList}
 use Rattle.ff_list.specs.Searches.{BelongsAt}
 

@@ -11,9 +11,11 @@ use Rattle.ff_data.specs.declared.order.Order.{Order}
 use Rattle.ff_data.specs.declared.order.Refusal.{Refusal}
 use Rattle.ff_data.specs.declared.order.Refusal.TheVariants as refusal
 use Rattle.ff_data.specs.declared.pair.Entry.{Entry}
+use Rattle.ff_data.specs.declared.point.Point.{Point}
 use Rattle.ff_data.specs.declared.system.System.{System}
 use Rattle.ff_data.specs.Lists.{IsEntry, key_at}
 use Rattle.ff_data.specs.Orders.{IsMaximal, IsSeparable}
+use Rattle.ff_data.specs.Points.{IsPoint}
 use Rattle.ff_data.specs.Systems.{gaps_of}
 use Rattle.ff_sep.specs.declared.separability.SepFault.TheVariants as fault
 use Rattle.ff_sep.specs.Faults.{IsCause}
@@ -46,6 +48,23 @@ module _ {F : Elements ℕ} (L : Lawful F) (f : List (List ℕ)) where
     pub infinite_is : IsMaximal L f infinite
     pub infinite_chart : infinite.chart ≡ Infinite
 
+  -- data of a point of one of two orders
+  abbrev pub IsPointOf : Order → Order → Point → Type 0
+  IsPointOf finite infinite p = IsPoint L f finite p ⊎ IsPoint L f infinite p
+
+  -- a point of maximal orders of f
+  pub record HasRationalPlace : Type 0 where
+    pub finite : Order
+    pub infinite : Order
+    pub orders : AreBothOrders finite infinite
+    pub point : Point
+    pub is_point : IsPointOf finite infinite point
+
+  -- both maximal orders of f, which have no point
+  pub record HaveNoPlace (finite infinite : Order) : Type 0 where
+    pub orders : AreBothOrders finite infinite
+    pub none : (p : Point) → ¬ IsPointOf finite infinite p
+
 -- a system of e functions whose gap number is 0 or 1
 pub record IsSmall (s : System) : Type 0 where
   pub positive : 0 < s.e
@@ -75,7 +94,7 @@ module _ {F : Elements ℕ} (L : Lawful F) (f g : List (List ℕ)) where
   IsRefused (refusal.Inseparable w) = HoldsOfFirst (λ h. IsCause L h fault.Inseparable) w
   IsRefused (refusal.Reducible w a b) = HoldsOfFirst (λ h. AreFactors L h a b) w
   IsRefused (refusal.NoRationalPlace finite infinite) =
-      AreAdmitted × AreBothOrders L f finite infinite
-  IsRefused refusal.PoleLimit = AreAdmitted
-  IsRefused (refusal.SmallGenus s) = AreAdmitted × IsSmall s
+      AreAdmitted × HaveNoPlace L f finite infinite
+  IsRefused refusal.PoleLimit = AreAdmitted × HasRationalPlace L f
+  IsRefused (refusal.SmallGenus s) = AreAdmitted × IsSmall s × HasRationalPlace L f
   IsRefused refusal.NoMemory = Unit {0}

@@ -1,31 +1,33 @@
 -- What the search for isomorphisms has: equations with their orders, points and systems, by their
 -- forms, for an equation f over a field whose laws are L. This project's own.
-use Rattle.std.specs.Prelude.{◌≡◌, ℕ, ◌+◌, ◌-◌, ◌<◌, ◌≤◌, ◌⊎◌, List, length}
+use Rattle.std.specs.Prelude.{◌≡◌, ℕ, ◌-◌, ◌<◌, ◌≤◌, ◌⊎◌, List, length, get_or}
 use Rattle.std.specs.declared.cmp.Ordering.TheVariants.{Less}
 use Rattle.std.specs.List.{All}
 use Rattle.ff_theory.specs.Ring.{Elements, IsElement}
 use Rattle.ff_theory.specs.Lawful.{Lawful}
 use Rattle.ff_elem.specs.Key.{key_cmp}
-use Rattle.ff_data.specs.declared.order.Chart.{Chart}
-use Rattle.ff_data.specs.declared.order.Chart.TheVariants.{Finite, Infinite}
 use Rattle.ff_data.specs.declared.order.Order.{Order}
 use Rattle.ff_data.specs.declared.order.Refusal.{Refusal}
 use Rattle.ff_data.specs.declared.order.Refusal.TheVariants as refusal
+use Rattle.ff_data.specs.declared.point.Point.{Point}
 use Rattle.ff_data.specs.declared.pair.Pair.{Pair}
 use Rattle.ff_data.specs.declared.pair.Entry.{Entry}
 use Rattle.ff_data.specs.declared.system.System.{System}
 use Rattle.ff_data.specs.Lists.{pair_key, key_at}
-use Rattle.ff_data.specs.Orders.{IsOrder, IsSep}
+use Rattle.ff_data.specs.Orders.{IsSep}
 use Rattle.ff_data.specs.Systems.{HasForm, gaps_of}
 use Rattle.ff_ring.specs.Ring.{HasTable}
-use Rattle.ff_forms.specs.Forms.{HasPointForm, HasRelationForm, IsWithinLimit}
+use Rattle.ff_forms.specs.Forms.{HasPointForm, HasRelationForm, IsWithinLimit, AreAlike}
 use Rattle.ff_sep.specs.declared.separability.SepFault.TheVariants as fault
 use Rattle.ff_sep.specs.Faults.{IsCause}
-use Rattle.ff_list.specs.declared.choice.Known.{Known}
+use Rattle.ff_list.specs.declared.known.Known.{Known}
 use Rattle.ff_list.specs.declared.starts.KeptParts.{KeptParts}
 use Rattle.ff_list.specs.declared.starts.Start.{Start}
-use Rattle.ff_list.specs.declared.places.Places.{Places}
+use Rattle.ff_list.specs.declared.starts.StartFault.{StartFault}
+use Rattle.ff_list.specs.declared.starts.StartFault.TheVariants as start
 use Rattle.ff_list.specs.Lists.{AreFactors, AreBothOrders, IsSmall}
+use Rattle.ff_list.specs.Lists.{IsPointOf, HasRationalPlace, HaveNoPlace}
+use Rattle.ff_points.specs.PointLists.{IsOneOf}
 
 -- ---- Lists by rising key
 
@@ -37,17 +39,26 @@ pub record BelongsAt (F : Elements ℕ) (entries : List Entry) (p : Pair) (i : �
   pub before : (d : Entry) → i < length entries
       → key_cmp (pair_key F p) (key_at F entries i d) ≡ Less
 
--- ---- Points
+-- ---- Elements
 
--- the points of the orders o of the finite chart and q of the infinite chart
-pub record ArePlaces (F : Elements ℕ) (o q : Order) (p : Places) : Type 0 where
-  pub finite : All (HasPointForm F o) p.finite
-  pub infinite : All (HasPointForm F q) p.infinite
+-- a value stands for an element that is not 0 and has an index below n
+pub record IsNonzeroBelow (F : Elements ℕ) (n a : ℕ) : Type 0 where
+  pub element : IsElement F a
+  pub nonzero : ¬ (F.value a ≡ F.zero)
+  pub below : F.index (F.value a) < n
 
--- there is a point of the chart with the index
-abbrev pub IsIndex : Places → Chart → ℕ → Type 0
-IsIndex p Finite i = i < length p.finite
-IsIndex p Infinite i = i < length p.infinite
+-- the list has the elements that are not 0 and have an index below n: each of them, and each once,
+-- by rising index
+pub record AreNonzeroBelow (F : Elements ℕ) (n : ℕ) (list : List ℕ) : Type 0 where
+  pub each : All (IsNonzeroBelow F n) list
+  pub all : (v : F.carrier) → ¬ (v ≡ F.zero) → F.index v < n
+      → (i : ℕ) × ((i < length list) × (F.value (get_or list i 0) ≡ v))
+  pub rising : (i j : ℕ) → i < j → j < length list
+      → F.index (F.value (get_or list i 0)) < F.index (F.value (get_or list j 0))
+
+-- all elements that are not 0, each once
+abbrev pub AreSlopes : Elements ℕ → List ℕ → Type 0
+AreSlopes F list = AreNonzeroBelow F F.size list
 
 -- alpha and beta are elements, and alpha is not 0
 pub record IsChoice (F : Elements ℕ) (a b : ℕ) : Type 0 where
@@ -55,12 +66,21 @@ pub record IsChoice (F : Elements ℕ) (a b : ℕ) : Type 0 where
   pub nonzero : ¬ (F.value a ≡ F.zero)
   pub beta : IsElement F b
 
+-- ---- Points
+
+-- a point of the order o or of the order q
+abbrev pub IsPlace : Elements ℕ → Order → Order → Point → Type 0
+IsPlace F o q p = HasPointForm F o p ⊎ HasPointForm F q p
+
+-- ---- One equation
+
 module _ {F : Elements ℕ} (L : Lawful F) (f : List (List ℕ)) where
-  -- orders of both charts
-  pub record AreOpposite (o p : Order) : Type 0 where
-    pub order : IsOrder L f o
-    pub other : IsOrder L f p
-    pub differ : ¬ (p.chart ≡ o.chart)
+  -- the maximal orders of the finite chart and of the infinite chart, and all points of them
+  pub record ArePlaces (o q : Order) (places : List Point) : Type 0 where
+    pub orders : AreBothOrders L f o q
+    pub each : All (IsPlace F o q) places
+    pub points : All (IsPointOf L f o q) places
+    pub all : (p : Point) → IsPointOf L f o q p → IsOneOf places p
 
   -- ---- Systems
 
@@ -72,8 +92,8 @@ module _ {F : Elements ℕ} (L : Lawful F) (f : List (List ℕ)) where
 
   -- a system and a relation of it
   pub record IsKnown (k : Known) : Type 0 where
-    pub system : IsFormed k.system
-    pub relation : HasRelationForm F k.system k.relation
+    pub system : IsFormed k.start.system
+    pub relation : HasRelationForm F k.start.system k.relation
 
   -- ---- Refusals
 
@@ -86,27 +106,40 @@ module _ {F : Elements ℕ} (L : Lawful F) (f : List (List ℕ)) where
 
   -- a system at one of the points, of a gap number above 1
   pub record IsStart (s : Start) : Type 0 where
-    pub index : IsIndex s.places s.chart s.index
+    pub index : s.index < length s.places.items
     pub system : IsFormed s.system
     pub gaps : 1 < gaps_of s.system.e s.system.weights
 
-  -- why there is no system to begin with
+  -- why the orders o and q give no system to begin with
+  abbrev pub IsStartFault : Order → Order → StartFault → Type 0
+  IsStartFault o q start.NoPlace = HaveNoPlace L f o q
+  IsStartFault o q start.PoleLimit = HasRationalPlace L f
+  IsStartFault o q (start.SmallGenus s) = IsSmall s × HasRationalPlace L f
+  IsStartFault o q start.NoMemory = Unit {0}
+
+  -- the refusal that says so
   abbrev pub HasNoStart : Refusal → Type 0
-  HasNoStart (refusal.NoRationalPlace finite infinite) = AreBothOrders L f finite infinite
-  HasNoStart refusal.PoleLimit = Unit {0}
-  HasNoStart (refusal.SmallGenus s) = IsSmall s
+  HasNoStart (refusal.NoRationalPlace finite infinite) = HaveNoPlace L f finite infinite
+  HasNoStart refusal.PoleLimit = HasRationalPlace L f
+  HasNoStart (refusal.SmallGenus s) = IsSmall s × HasRationalPlace L f
   HasNoStart refusal.NoMemory = Unit {0}
   HasNoStart r = ⊥
 
 -- ---- Two equations
 
 module _ {F : Elements ℕ} (L : Lawful F) (f g : List (List ℕ)) where
+  -- what is known of f, and a system of g with the same pole numbers
+  pub record AreMatched (k : Known) (s : System) : Type 0 where
+    pub known : IsKnown L f k
+    pub system : IsFormed L g s
+    pub alike : AreAlike k.start.system s
+
   -- the parts of f and g: separability, maximal orders, a point of f and a system there
   pub record AreKept (p : KeptParts) : Type 0 where
     pub sep1 : IsSep L f p.sep1
     pub orders1 : AreBothOrders L f p.finite1 p.infinite1
     pub sep2 : IsSep L g p.sep2
     pub orders2 : AreBothOrders L g p.finite2 p.infinite2
-    pub point : HasPointForm F p.finite1 p.point ⊎ HasPointForm F p.infinite1 p.point
+    pub point : IsPointOf L f p.finite1 p.infinite1 p.point
     pub system : IsFormed L f p.system
     pub gaps : 1 < gaps_of p.system.e p.system.weights

@@ -1,7 +1,8 @@
 // An equation with its algebra and its maximal orders, where it is admitted.
 ghost use Rattle.std.specs.Prelude.{◌≡◌, ◌<◌, length, IfOk, IfErr};
 ghost use Rattle.ff_theory.specs.Values.{IsPlane};
-ghost use Rattle.ff_data.specs.Orders.{IsSep, IsSeparable};
+ghost use Rattle.ff_data.specs.declared.order.Chart.TheVariants.{Finite};
+ghost use Rattle.ff_data.specs.Orders.{IsSep, IsSeparable, IsMaximal};
 ghost use Rattle.ff_list.specs.Lists.{IsAdmitted, AreBothOrders};
 ghost use Rattle.ff_list.specs.Searches.{IsNotAdmitted};
 
@@ -23,6 +24,28 @@ pub struct Curve<K: FiniteField<E = u32>> {
     pub infinite: Order,
 }
 
+/// Both maximal orders, where the finite one is known.
+fn with_infinite<K: FiniteField<E = u32>>(
+    alloc: Global,
+    alg: &Alg<K>,
+    sep: &Sep,
+    finite: Order,
+) -> Result<(Order, Order), NoMemory>
+    requires sep { IsSep (K.lawful alg.now.k) alg.now.f sep.now }
+    requires order { IsMaximal (K.lawful alg.now.k) alg.now.f finite }
+    requires chart { finite.chart ≡ Finite }
+    ensures { let L = K.lawful alg.now.k in
+        IfOk result (λ r. AreBothOrders L alg.now.f r.0 r.1) }
+{
+    match maximal(alloc, alg, sep, Chart::Infinite) {
+        Ok(infinite) => Ok((finite, infinite)),
+        Err(NoMemory) => {
+            drop(finite);
+            Err(NoMemory)
+        },
+    }
+}
+
 /// Both maximal orders.
 fn orders<K: FiniteField<E = u32>>(
     alloc: Global,
@@ -33,9 +56,10 @@ fn orders<K: FiniteField<E = u32>>(
     ensures { let L = K.lawful alg.now.k in
         IfOk result (λ r. AreBothOrders L alg.now.f r.0 r.1) }
 {
-    let finite = maximal(alloc, alg, sep, Chart::Finite)?;
-    let infinite = maximal(alloc, alg, sep, Chart::Infinite)?;
-    Ok((finite, infinite))
+    match maximal(alloc, alg, sep, Chart::Finite) {
+        Ok(finite) => with_infinite(alloc, alg, sep, finite),
+        Err(NoMemory) => Err(NoMemory),
+    }
 }
 
 /// Whether the equation is irreducible by its orders, and the refusal of one that is not.
@@ -59,33 +83,26 @@ fn irreducible<K: FiniteField<E = u32>>(
     }
 }
 
-/// The equation with its orders, where they show that it is irreducible.
-fn with_orders<K: FiniteField<E = u32>>(
+/// The same equation with its orders, where they show that it is irreducible.
+fn admitted<K: FiniteField<E = u32>>(
     alloc: Global,
-    alg: Alg<K>,
-    sep: Sep,
-    finite: Order,
-    infinite: Order,
+    curve: Curve<K>,
     which: u8,
 ) -> Result<Curve<K>, Refusal>
-    requires sep { IsSep (K.lawful alg.k) alg.f sep }
-    requires separable { IsSeparable (K.lawful alg.k) alg.f }
-    requires orders { AreBothOrders (K.lawful alg.k) alg.f finite infinite }
-    ensures algebra { IfOk result (λ r. r.alg ≡ alg) }
-    ensures sep { IfOk result (λ r. IsSep (K.lawful alg.k) alg.f r.sep) }
-    ensures orders { let L = K.lawful alg.k in
-        IfOk result (λ r. AreBothOrders L alg.f r.finite r.infinite) }
-    ensures admitted { IfOk result (λ _. IsAdmitted (K.lawful alg.k) alg.f) }
-    ensures refused { let L = K.lawful alg.k in IfErr result (IsNotAdmitted L alg.f which) }
+    requires separable { IsSeparable (K.lawful curve.alg.k) curve.alg.f }
+    requires orders { let L = K.lawful curve.alg.k in
+        AreBothOrders L curve.alg.f curve.finite curve.infinite }
+    ensures same { IfOk result (λ r. r ≡ curve) }
+    ensures admitted { IfOk result (λ _. IsAdmitted (K.lawful curve.alg.k) curve.alg.f) }
+    ensures refused { let L = K.lawful curve.alg.k in
+        IfErr result (IsNotAdmitted L curve.alg.f which) }
 {
-    match irreducible(alloc, &alg, &finite, &infinite, which) {
-        Ok(()) => Ok(Curve {
-            alg,
-            sep,
-            finite,
-            infinite,
-        }),
-        Err(refusal) => Err(refusal),
+    match irreducible(alloc, &curve.alg, &curve.finite, &curve.infinite, which) {
+        Ok(()) => Ok(curve),
+        Err(refusal) => {
+            drop(curve);
+            Err(refusal)
+        },
     }
 }
 
@@ -106,8 +123,21 @@ fn separated<K: FiniteField<E = u32>>(
     ensures refused { let L = K.lawful alg.k in IfErr result (IsNotAdmitted L alg.f which) }
 {
     match orders(alloc, &alg, &sep) {
-        Ok((finite, infinite)) => with_orders(alloc, alg, sep, finite, infinite, which),
-        Err(NoMemory) => Err(Refusal::NoMemory),
+        Ok((finite, infinite)) => admitted(
+            alloc,
+            Curve {
+                alg,
+                sep,
+                finite,
+                infinite,
+            },
+            which,
+        ),
+        Err(NoMemory) => {
+            drop(sep);
+            drop(alg);
+            Err(Refusal::NoMemory)
+        },
     }
 }
 

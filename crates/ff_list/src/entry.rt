@@ -45,6 +45,25 @@ fn index_of<K: FiniteField<E = u32>>(alg: &Alg<K>, list: &[Entry], pair: &Pair) 
     Some(low)
 }
 
+/// Adds an entry at its place.
+fn insert_at<K: FiniteField<E = u32>>(
+    alg1: &Alg<K>,
+    alg2: &Alg<K>,
+    list: &mut Vec<Entry>,
+    i: usize,
+    entry: Entry,
+) -> Result<(), NoMemory>
+    requires list { IsTrueList (K.lawful alg2.now.k) alg1.now.f alg2.now.f list.old.items }
+    requires entry { IsEntry (K.lawful alg2.now.k) alg1.now.f alg2.now.f entry }
+    requires place { BelongsAt (K.elements alg2.now.k) list.old.items entry.pair i }
+    ensures { let L = K.lawful alg2.now.k in
+        IfOk result (λ _. IsTrueList L alg1.now.f alg2.now.f list.new.items) }
+{
+    let (_first, _second) = (alg1, alg2);
+    list.insert(i, entry)?;
+    Ok(())
+}
+
 /// Adds an entry at its place, unless the list has its pair.
 pub fn insert<K: FiniteField<E = u32>>(
     alg1: &Alg<K>,
@@ -57,11 +76,10 @@ pub fn insert<K: FiniteField<E = u32>>(
     ensures { let L = K.lawful alg2.now.k in
         IfOk result (λ _. IsTrueList L alg1.now.f alg2.now.f list.new.items) }
 {
-    let _first = alg1;
     match index_of(alg2, list, &entry.pair) {
-        None => Ok(()),
-        Some(i) => {
-            list.insert(i, entry)?;
+        Some(i) => insert_at(alg1, alg2, list, i, entry),
+        None => {
+            drop(entry);
             Ok(())
         },
     }

@@ -6,9 +6,11 @@ mod choice;
 mod curve;
 mod entry;
 mod isomorphisms;
+mod known;
 mod places;
 mod profile;
 mod search;
+mod slopes;
 mod starts;
 
 pub use isomorphisms::isos;

@@ -1,17 +1,18 @@
 // The search over the points of the second field and the lines alpha * z + beta.
-ghost use Rattle.std.specs.Prelude.{◌≡◌, ◌≤◌, IfOk};
-ghost use Rattle.std.specs.List.{All};
+ghost use Rattle.std.specs.Prelude.{◌≡◌, ◌≤◌, IfOk, IfSome};
 ghost use Rattle.ff_theory.specs.Ring.{IsElement};
-ghost use Rattle.ff_forms.specs.Forms.{AreAlike, HasPointForm};
 ghost use Rattle.ff_list.specs.Lists.{IsTrueList, AreBothOrders};
-ghost use Rattle.ff_list.specs.Searches.{ArePlaces, AreOpposite, IsFormed, IsKnown, IsChoice};
+ghost use Rattle.ff_list.specs.Searches.{ArePlaces, IsPlace, IsFormed, IsKnown, AreMatched};
+ghost use Rattle.ff_list.specs.Searches.{AreSlopes, IsChoice};
 
-use crate::choice::{Known, search_choice};
+use crate::choice::search_choice;
 use crate::curve::Curve;
-use crate::places::{Places, system_at};
+use crate::known::Known;
+use crate::places::system_like;
 use crate::profile::{Profile, fits};
-use ff_alg::{FiniteField, NoMemory, Steps, is_zero};
-use ff_data::{Entry, Order, Point, System};
+use crate::slopes::slopes;
+use ff_alg::{FiniteField, NoMemory, Steps};
+use ff_data::{Entry, Point, System};
 use ff_elem::Alg;
 use ff_match::alike;
 use std::alloc::Global;
@@ -41,9 +42,7 @@ fn search_line<K: FiniteField<E = u32>, L: Ledger, M: Ledger>(
     nodes: &mut Steps<M>,
 ) -> Result<(), NoMemory>
     requires field { alg1.now.k ≡ alg2.now.k }
-    requires known { IsKnown (K.lawful alg2.now.k) alg1.now.f known.now }
-    requires system { IsFormed (K.lawful alg2.now.k) alg2.now.f s2.now }
-    requires alike { AreAlike known.now.system s2.now }
+    requires systems { AreMatched (K.lawful alg2.now.k) alg1.now.f alg2.now.f known.now s2.now }
     requires choice { IsChoice (K.elements alg2.now.k) alpha beta }
     requires list { IsTrueList (K.lawful alg2.now.k) alg1.now.f alg2.now.f hits.old.list.items }
     ensures list { let L = K.lawful alg2.now.k in
@@ -51,7 +50,7 @@ fn search_line<K: FiniteField<E = u32>, L: Ledger, M: Ledger>(
     ensures tests { tests.old ≤ tests.new }
     ensures nodes { nodes.old ≤ nodes.new }
 {
-    let (k, s1) = (&alg2.k, &known.system);
+    let (k, s1) = (&alg2.k, &known.start.system);
     let fitting = fits(alloc, k, s1, s2, alpha, beta, &mut hits.profile, second)?;
     if !fitting {
         return Ok(());
@@ -76,9 +75,7 @@ fn search_slope<K: FiniteField<E = u32>, L: Ledger, M: Ledger>(
     nodes: &mut Steps<M>,
 ) -> Result<(), NoMemory>
     requires field { alg1.now.k ≡ alg2.now.k }
-    requires known { IsKnown (K.lawful alg2.now.k) alg1.now.f known.now }
-    requires system { IsFormed (K.lawful alg2.now.k) alg2.now.f s2.now }
-    requires alike { AreAlike known.now.system s2.now }
+    requires systems { AreMatched (K.lawful alg2.now.k) alg1.now.f alg2.now.f known.now s2.now }
     requires alpha { IsElement (K.elements alg2.now.k) alpha }
     requires nonzero { let F = K.elements alg2.now.k in ¬ (F.value alpha ≡ F.zero) }
     requires list { IsTrueList (K.lawful alg2.now.k) alg1.now.f alg2.now.f hits.old.list.items }
@@ -96,36 +93,43 @@ fn search_slope<K: FiniteField<E = u32>, L: Ledger, M: Ledger>(
     Ok(())
 }
 
-/// Adds the isomorphisms that carry z to `alpha * z + beta` for any beta, unless alpha is 0.
-fn search_alpha<K: FiniteField<E = u32>, L: Ledger, M: Ledger>(
+/// Adds the isomorphisms that carry z to `alpha * z + beta` for any beta and any alpha of a list.
+fn search_slopes<K: FiniteField<E = u32>, L: Ledger, M: Ledger>(
     alloc: Global,
     alg1: &Alg<K>,
     alg2: &Alg<K>,
     known: &Known,
     s2: &System,
-    alpha: u32,
-    second: &mut Profile,
+    slopes: &[u32],
     hits: &mut Hits,
     tests: &mut Steps<L>,
     nodes: &mut Steps<M>,
 ) -> Result<(), NoMemory>
     requires field { alg1.now.k ≡ alg2.now.k }
-    requires known { IsKnown (K.lawful alg2.now.k) alg1.now.f known.now }
-    requires system { IsFormed (K.lawful alg2.now.k) alg2.now.f s2.now }
-    requires alike { AreAlike known.now.system s2.now }
-    requires alpha { IsElement (K.elements alg2.now.k) alpha }
+    requires systems { AreMatched (K.lawful alg2.now.k) alg1.now.f alg2.now.f known.now s2.now }
+    requires slopes { AreSlopes (K.elements alg2.now.k) slopes.now }
     requires list { IsTrueList (K.lawful alg2.now.k) alg1.now.f alg2.now.f hits.old.list.items }
     ensures list { let L = K.lawful alg2.now.k in
         IfOk result (λ _. IsTrueList L alg1.now.f alg2.now.f hits.new.list.items) }
     ensures tests { tests.old ≤ tests.new }
     ensures nodes { nodes.old ≤ nodes.new }
 {
-    if is_zero(&alg2.k, alpha) {
-        return Ok(());
+    let mut second = Profile::new(alloc, &alg2.k)?;
+    for i in 0..slopes.len() {
+        search_slope(
+            alloc,
+            alg1,
+            alg2,
+            known,
+            s2,
+            slopes[i],
+            &mut second,
+            hits,
+            tests,
+            nodes,
+        )?;
     }
-    search_slope(
-        alloc, alg1, alg2, known, s2, alpha, second, hits, tests, nodes,
-    )
+    Ok(())
 }
 
 /// Adds the isomorphisms that carry the first system to s2.
@@ -140,32 +144,15 @@ fn search_system<K: FiniteField<E = u32>, L: Ledger, M: Ledger>(
     nodes: &mut Steps<M>,
 ) -> Result<(), NoMemory>
     requires field { alg1.now.k ≡ alg2.now.k }
-    requires known { IsKnown (K.lawful alg2.now.k) alg1.now.f known.now }
-    requires system { IsFormed (K.lawful alg2.now.k) alg2.now.f s2.now }
-    requires alike { AreAlike known.now.system s2.now }
+    requires systems { AreMatched (K.lawful alg2.now.k) alg1.now.f alg2.now.f known.now s2.now }
     requires list { IsTrueList (K.lawful alg2.now.k) alg1.now.f alg2.now.f hits.old.list.items }
     ensures list { let L = K.lawful alg2.now.k in
         IfOk result (λ _. IsTrueList L alg1.now.f alg2.now.f hits.new.list.items) }
     ensures tests { tests.old ≤ tests.new }
     ensures nodes { nodes.old ≤ nodes.new }
 {
-    let mut second = Profile::new(alloc, &alg2.k)?;
-    for i in 0..alg2.k.count() {
-        let alpha = alg2.k.nth(i);
-        search_alpha(
-            alloc,
-            alg1,
-            alg2,
-            known,
-            s2,
-            alpha,
-            &mut second,
-            hits,
-            tests,
-            nodes,
-        )?;
-    }
-    Ok(())
+    let slopes = slopes(alloc, &alg2.k)?;
+    search_slopes(alloc, alg1, alg2, known, s2, &slopes, hits, tests, nodes)
 }
 
 /// Adds the isomorphisms that carry the first system to s2, where they are alike.
@@ -188,80 +175,45 @@ fn search_alike<K: FiniteField<E = u32>, L: Ledger, M: Ledger>(
     ensures tests { tests.old ≤ tests.new }
     ensures nodes { nodes.old ≤ nodes.new }
 {
-    if !alike(&known.system, s2) {
+    if !alike(&known.start.system, s2) {
         return Ok(());
     }
     search_system(alloc, alg1, alg2, known, s2, hits, tests, nodes)
+}
+
+/// Adds the isomorphisms that carry the first system to another one, where there is one.
+fn search_found<K: FiniteField<E = u32>, L: Ledger, M: Ledger>(
+    alloc: Global,
+    alg1: &Alg<K>,
+    alg2: &Alg<K>,
+    known: &Known,
+    found: &Option<System>,
+    hits: &mut Hits,
+    tests: &mut Steps<L>,
+    nodes: &mut Steps<M>,
+) -> Result<(), NoMemory>
+    requires field { alg1.now.k ≡ alg2.now.k }
+    requires known { IsKnown (K.lawful alg2.now.k) alg1.now.f known.now }
+    requires system { IfSome found.now (IsFormed (K.lawful alg2.now.k) alg2.now.f) }
+    requires list { IsTrueList (K.lawful alg2.now.k) alg1.now.f alg2.now.f hits.old.list.items }
+    ensures list { let L = K.lawful alg2.now.k in
+        IfOk result (λ _. IsTrueList L alg1.now.f alg2.now.f hits.new.list.items) }
+    ensures tests { tests.old ≤ tests.new }
+    ensures nodes { nodes.old ≤ nodes.new }
+{
+    match found {
+        Some(s2) => search_alike(alloc, alg1, alg2, known, s2, hits, tests, nodes),
+        None => Ok(()),
+    }
 }
 
 /// Adds the isomorphisms that carry the point of the first system to a point.
 fn search_point<K: FiniteField<E = u32>, L: Ledger, M: Ledger>(
     alloc: Global,
     alg1: &Alg<K>,
-    alg2: &Alg<K>,
-    known: &Known,
-    order: &Order,
-    other: &Order,
-    point: &Point,
-    hits: &mut Hits,
-    tests: &mut Steps<L>,
-    nodes: &mut Steps<M>,
-) -> Result<(), NoMemory>
-    requires field { alg1.now.k ≡ alg2.now.k }
-    requires known { IsKnown (K.lawful alg2.now.k) alg1.now.f known.now }
-    requires orders { AreOpposite (K.lawful alg2.now.k) alg2.now.f order.now other.now }
-    requires point { HasPointForm (K.elements alg2.now.k) order.now point.now }
-    requires list { IsTrueList (K.lawful alg2.now.k) alg1.now.f alg2.now.f hits.old.list.items }
-    ensures list { let L = K.lawful alg2.now.k in
-        IfOk result (λ _. IsTrueList L alg1.now.f alg2.now.f hits.new.list.items) }
-    ensures tests { tests.old ≤ tests.new }
-    ensures nodes { nodes.old ≤ nodes.new }
-{
-    match system_at(alloc, alg2, order, other, point, Some(&known.system))? {
-        Some(s2) => search_alike(alloc, alg1, alg2, known, &s2, hits, tests, nodes),
-        None => Ok(()),
-    }
-}
-
-/// Adds the isomorphisms that carry the point of the first system to one of the points of an order.
-fn search_points<K: FiniteField<E = u32>, L: Ledger, M: Ledger>(
-    alloc: Global,
-    alg1: &Alg<K>,
-    alg2: &Alg<K>,
-    known: &Known,
-    order: &Order,
-    other: &Order,
-    points: &[Point],
-    hits: &mut Hits,
-    tests: &mut Steps<L>,
-    nodes: &mut Steps<M>,
-) -> Result<(), NoMemory>
-    requires field { alg1.now.k ≡ alg2.now.k }
-    requires known { IsKnown (K.lawful alg2.now.k) alg1.now.f known.now }
-    requires orders { AreOpposite (K.lawful alg2.now.k) alg2.now.f order.now other.now }
-    requires points { All (HasPointForm (K.elements alg2.now.k) order.now) points.now }
-    requires list { IsTrueList (K.lawful alg2.now.k) alg1.now.f alg2.now.f hits.old.list.items }
-    ensures list { let L = K.lawful alg2.now.k in
-        IfOk result (λ _. IsTrueList L alg1.now.f alg2.now.f hits.new.list.items) }
-    ensures tests { tests.old ≤ tests.new }
-    ensures nodes { nodes.old ≤ nodes.new }
-{
-    for i in 0..points.len() {
-        search_point(
-            alloc, alg1, alg2, known, order, other, &points[i], hits, tests, nodes,
-        )?;
-    }
-    Ok(())
-}
-
-/// Adds the isomorphisms that carry the point of the first system to one of the points, those at
-/// infinity first.
-pub fn search<K: FiniteField<E = u32>, L: Ledger, M: Ledger>(
-    alloc: Global,
-    alg1: &Alg<K>,
     curve: &Curve<K>,
     known: &Known,
-    places: &Places,
+    point: &Point,
     hits: &mut Hits,
     tests: &mut Steps<L>,
     nodes: &mut Steps<M>,
@@ -270,8 +222,8 @@ pub fn search<K: FiniteField<E = u32>, L: Ledger, M: Ledger>(
     requires known { IsKnown (K.lawful curve.now.alg.k) alg1.now.f known.now }
     requires orders { let c = curve.now in
         AreBothOrders (K.lawful c.alg.k) c.alg.f c.finite c.infinite }
-    requires places { let c = curve.now in
-        ArePlaces (K.elements c.alg.k) c.finite c.infinite places.now }
+    requires point { let c = curve.now in
+        IsPlace (K.elements c.alg.k) c.finite c.infinite point.now }
     requires list { let c = curve.now in
         IsTrueList (K.lawful c.alg.k) alg1.now.f c.alg.f hits.old.list.items }
     ensures list { let c = curve.now in
@@ -279,13 +231,36 @@ pub fn search<K: FiniteField<E = u32>, L: Ledger, M: Ledger>(
     ensures tests { tests.old ≤ tests.new }
     ensures nodes { nodes.old ≤ nodes.new }
 {
-    let (alg2, inf, fin) = (&curve.alg, &curve.infinite, &curve.finite);
-    let points = &places.infinite.items;
-    search_points(
-        alloc, alg1, alg2, known, inf, fin, points, hits, tests, nodes,
-    )?;
-    let points = &places.finite.items;
-    search_points(
-        alloc, alg1, alg2, known, fin, inf, points, hits, tests, nodes,
-    )
+    let found = system_like(alloc, curve, point, &known.start.system)?;
+    let outcome = search_found(alloc, alg1, &curve.alg, known, &found, hits, tests, nodes);
+    drop(found);
+    outcome
+}
+
+/// Adds the isomorphisms that carry the point of the first system to one of the points.
+pub fn search<K: FiniteField<E = u32>, L: Ledger, M: Ledger>(
+    alloc: Global,
+    alg1: &Alg<K>,
+    curve: &Curve<K>,
+    known: &Known,
+    places: &[Point],
+    hits: &mut Hits,
+    tests: &mut Steps<L>,
+    nodes: &mut Steps<M>,
+) -> Result<(), NoMemory>
+    requires field { alg1.now.k ≡ curve.now.alg.k }
+    requires known { IsKnown (K.lawful curve.now.alg.k) alg1.now.f known.now }
+    requires places { let c = curve.now in
+        ArePlaces (K.lawful c.alg.k) c.alg.f c.finite c.infinite places.now }
+    requires list { let c = curve.now in
+        IsTrueList (K.lawful c.alg.k) alg1.now.f c.alg.f hits.old.list.items }
+    ensures list { let c = curve.now in
+        IfOk result (λ _. IsTrueList (K.lawful c.alg.k) alg1.now.f c.alg.f hits.new.list.items) }
+    ensures tests { tests.old ≤ tests.new }
+    ensures nodes { nodes.old ≤ nodes.new }
+{
+    for i in 0..places.len() {
+        search_point(alloc, alg1, curve, known, &places[i], hits, tests, nodes)?;
+    }
+    Ok(())
 }

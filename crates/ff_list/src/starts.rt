@@ -1,17 +1,16 @@
 // The first field with the pole system that is kept for the search.
-ghost use Rattle.std.specs.Prelude.{◌≡◌, ◌<◌, ◌⊎◌, length, IfOk, IfErr};
+ghost use Rattle.std.specs.Prelude.{◌≡◌, ◌<◌, length, IfOk, IfErr};
 ghost use Rattle.ff_poly.specs.Limits.{IsEquation};
 ghost use Rattle.ff_data.specs.Orders.{IsSep};
-ghost use Rattle.ff_data.specs.Systems.{gaps_of};
-ghost use Rattle.ff_forms.specs.Forms.{HasPointForm};
 ghost use Rattle.ff_list.specs.Lists.{IsAdmitted, AreAdmitted, AreBothOrders, IsRefused};
-ghost use Rattle.ff_list.specs.Searches.{ArePlaces, IsFormed, IsIndex, IsStart, HasNoStart};
-ghost use Rattle.ff_list.specs.Searches.{AreKept};
+ghost use Rattle.ff_list.specs.Lists.{IsPointOf, HasRationalPlace, HaveNoPlace};
+ghost use Rattle.ff_list.specs.Searches.{ArePlaces, IsFormed, IsStart};
+ghost use Rattle.ff_list.specs.Searches.{IsStartFault, HasNoStart, AreKept};
 
 use crate::curve::{Curve, curve_of};
-use crate::places::{Found, Places, first_finite, first_infinite, places_of};
+use crate::places::{Found, first_of, places_of};
 use ff_alg::{FiniteField, NoMemory};
-use ff_data::{Chart, Order, Point, Refusal, Sep, System, gap_number};
+use ff_data::{Order, Point, Refusal, Sep, System, gap_number};
 use ff_poly::Plane;
 use std::alloc::Global;
 
@@ -29,88 +28,125 @@ pub struct KeptParts {
     pub system: System,
 }
 
-/// The points of an equation, and the first of them with a pole system: its chart, its index among
-/// the points of that chart, and a system there.
+/// The points of an equation, and the first of them with a pole system: its index among them, and a
+/// system there.
 #[derive(Drop)]
 pub struct Start {
-    pub places: Places,
-    pub chart: Chart,
+    pub places: Vec<Point>,
     pub index: usize,
     pub system: System,
+}
+
+/// Why an equation has no start.
+#[derive(Drop)]
+pub enum StartFault {
+    NoPlace,
+    PoleLimit,
+    SmallGenus { system: System },
+    NoMemory,
 }
 
 /// The start at a system, unless its gap number is 0 or 1.
 fn start_at<K: FiniteField<E = u32>>(
     curve: &Curve<K>,
-    places: Places,
-    chart: Chart,
+    places: Vec<Point>,
     found: Found,
-) -> Result<Start, Refusal>
-    requires index { IsIndex places chart found.index }
+) -> Result<Start, StartFault>
+    requires index { found.index < length places.items }
     requires system { IsFormed (K.lawful curve.now.alg.k) curve.now.alg.f found.system }
+    requires place { HasRationalPlace (K.lawful curve.now.alg.k) curve.now.alg.f }
     ensures places { IfOk result (λ r. r.places ≡ places) }
     ensures start { let c = curve.now in IfOk result (IsStart (K.lawful c.alg.k) c.alg.f) }
-    ensures refused { let c = curve.now in IfErr result (HasNoStart (K.lawful c.alg.k) c.alg.f) }
+    ensures fault { let c = curve.now in let L = K.lawful c.alg.k in
+        IfErr result (IsStartFault L c.alg.f c.finite c.infinite) }
 {
     let _curve = curve;
     let Found { index, system } = found;
     if gap_number(&system) <= 1 {
-        return Err(Refusal::SmallGenus { system });
+        drop(places);
+        return Err(StartFault::SmallGenus { system });
     }
     Ok(Start {
         places,
-        chart,
         index,
         system,
     })
-}
-
-/// The start at a finite point.
-fn start_at_finite<K: FiniteField<E = u32>>(
-    alloc: Global,
-    curve: &Curve<K>,
-    places: Places,
-) -> Result<Start, Refusal>
-    requires orders { let c = curve.now in
-        AreBothOrders (K.lawful c.alg.k) c.alg.f c.finite c.infinite }
-    requires places { let c = curve.now in
-        ArePlaces (K.elements c.alg.k) c.finite c.infinite places }
-    ensures places { IfOk result (λ r. r.places ≡ places) }
-    ensures start { let c = curve.now in IfOk result (IsStart (K.lawful c.alg.k) c.alg.f) }
-    ensures refused { let c = curve.now in IfErr result (HasNoStart (K.lawful c.alg.k) c.alg.f) }
-{
-    match first_finite(alloc, curve, &places.finite.items) {
-        Ok(Some(found)) => start_at(curve, places, Chart::Finite, found),
-        Ok(None) => Err(Refusal::PoleLimit),
-        Err(NoMemory) => Err(Refusal::NoMemory),
-    }
 }
 
 /// The start at one of the points.
 fn start_among<K: FiniteField<E = u32>>(
     alloc: Global,
     curve: &Curve<K>,
-    places: Places,
-) -> Result<Start, Refusal>
-    requires orders { let c = curve.now in
-        AreBothOrders (K.lawful c.alg.k) c.alg.f c.finite c.infinite }
-    requires places { let c = curve.now in
-        ArePlaces (K.elements c.alg.k) c.finite c.infinite places }
-    ensures places { IfOk result (λ r. r.places ≡ places) }
+    places: Vec<Point>,
+) -> Result<Start, StartFault>
+    requires places { let c = curve.now in let L = K.lawful c.alg.k in
+        ArePlaces L c.alg.f c.finite c.infinite places.items }
+    requires nonempty { 0 < length places.items }
+    ensures places { let c = curve.now in let L = K.lawful c.alg.k in
+        IfOk result (λ r. ArePlaces L c.alg.f c.finite c.infinite r.places.items) }
     ensures start { let c = curve.now in IfOk result (IsStart (K.lawful c.alg.k) c.alg.f) }
-    ensures refused { let c = curve.now in IfErr result (HasNoStart (K.lawful c.alg.k) c.alg.f) }
+    ensures fault { let c = curve.now in let L = K.lawful c.alg.k in
+        IfErr result (IsStartFault L c.alg.f c.finite c.infinite) }
 {
-    match first_infinite(alloc, curve, &places.infinite.items) {
-        Ok(Some(found)) => start_at(curve, places, Chart::Infinite, found),
-        Ok(None) => start_at_finite(alloc, curve, places),
-        Err(NoMemory) => Err(Refusal::NoMemory),
+    match first_of(alloc, curve, &places) {
+        Ok(Some(found)) => start_at(curve, places, found),
+        Ok(None) => {
+            drop(places);
+            Err(StartFault::PoleLimit)
+        },
+        Err(NoMemory) => {
+            drop(places);
+            Err(StartFault::NoMemory)
+        },
+    }
+}
+
+/// The start at one of the points, where there is any.
+fn start_in<K: FiniteField<E = u32>>(
+    alloc: Global,
+    curve: &Curve<K>,
+    places: Vec<Point>,
+) -> Result<Start, StartFault>
+    requires { let c = curve.now in let L = K.lawful c.alg.k in
+        ArePlaces L c.alg.f c.finite c.infinite places.items }
+    ensures places { let c = curve.now in let L = K.lawful c.alg.k in
+        IfOk result (λ r. ArePlaces L c.alg.f c.finite c.infinite r.places.items) }
+    ensures start { let c = curve.now in IfOk result (IsStart (K.lawful c.alg.k) c.alg.f) }
+    ensures fault { let c = curve.now in let L = K.lawful c.alg.k in
+        IfErr result (IsStartFault L c.alg.f c.finite c.infinite) }
+{
+    if places.is_empty() {
+        drop(places);
+        Err(StartFault::NoPlace)
+    } else {
+        start_among(alloc, curve, places)
+    }
+}
+
+/// The points of an equation and the first of them that has a pole system within the pole limit,
+/// with one there of a gap number above 1; else why there is none.
+pub fn start_of<K: FiniteField<E = u32>>(
+    alloc: Global,
+    curve: &Curve<K>,
+) -> Result<Start, StartFault>
+    requires { let c = curve.now in
+        AreBothOrders (K.lawful c.alg.k) c.alg.f c.finite c.infinite }
+    ensures places { let c = curve.now in let L = K.lawful c.alg.k in
+        IfOk result (λ r. ArePlaces L c.alg.f c.finite c.infinite r.places.items) }
+    ensures start { let c = curve.now in IfOk result (IsStart (K.lawful c.alg.k) c.alg.f) }
+    ensures fault { let c = curve.now in let L = K.lawful c.alg.k in
+        IfErr result (IsStartFault L c.alg.f c.finite c.infinite) }
+{
+    match places_of(alloc, curve) {
+        Ok(places) => start_in(alloc, curve, places),
+        Err(NoMemory) => Err(StartFault::NoMemory),
     }
 }
 
 /// The refusal of an equation without points.
 fn no_place<K: FiniteField<E = u32>>(curve: Curve<K>) -> Refusal
     requires { let L = K.lawful curve.alg.k in
-        AreBothOrders L curve.alg.f curve.finite curve.infinite }
+        HaveNoPlace L curve.alg.f curve.finite curve.infinite }
     ensures { HasNoStart (K.lawful curve.alg.k) curve.alg.f result }
 {
     let Curve {
@@ -122,79 +158,40 @@ fn no_place<K: FiniteField<E = u32>>(curve: Curve<K>) -> Refusal
     Refusal::NoRationalPlace { finite, infinite }
 }
 
-/// An equation with its start.
-fn started<K: FiniteField<E = u32>>(
-    alloc: Global,
-    curve: Curve<K>,
-    places: Places,
-) -> Result<(Curve<K>, Start), Refusal>
-    requires orders { let L = K.lawful curve.alg.k in
-        AreBothOrders L curve.alg.f curve.finite curve.infinite }
-    requires places { let F = K.elements curve.alg.k in
-        ArePlaces F curve.finite curve.infinite places }
-    ensures curve { IfOk result (λ r. r.0 ≡ curve) }
-    ensures places { let F = K.elements curve.alg.k in
-        IfOk result (λ r. ArePlaces F curve.finite curve.infinite r.1.places) }
-    ensures start { let L = K.lawful curve.alg.k in
-        IfOk result (λ r. IsStart L curve.alg.f r.1) }
-    ensures refused { let L = K.lawful curve.alg.k in
-        IfErr result (HasNoStart L curve.alg.f) }
+/// The refusal of an equation without a start.
+pub fn refusal_of<K: FiniteField<E = u32>>(curve: Curve<K>, fault: StartFault) -> Refusal
+    requires { let L = K.lawful curve.alg.k in
+        IsStartFault L curve.alg.f curve.finite curve.infinite fault }
+    ensures { HasNoStart (K.lawful curve.alg.k) curve.alg.f result }
 {
-    if places.infinite.items.is_empty() && places.finite.items.is_empty() {
-        return Err(no_place(curve));
-    }
-    match start_among(alloc, &curve, places) {
-        Ok(start) => Ok((curve, start)),
-        Err(refusal) => Err(refusal),
+    match fault {
+        StartFault::NoPlace => no_place(curve),
+        StartFault::PoleLimit => {
+            drop(curve);
+            Refusal::PoleLimit
+        },
+        StartFault::SmallGenus { system } => {
+            drop(curve);
+            Refusal::SmallGenus { system }
+        },
+        StartFault::NoMemory => {
+            drop(curve);
+            Refusal::NoMemory
+        },
     }
 }
 
-/// An equation with its points and the first of them that has a pole system within the pole limit,
-/// with one there of a gap number above 1; else why there is none.
-pub fn start_of<K: FiniteField<E = u32>>(
-    alloc: Global,
-    curve: Curve<K>,
-) -> Result<(Curve<K>, Start), Refusal>
-    requires orders { let L = K.lawful curve.alg.k in
-        AreBothOrders L curve.alg.f curve.finite curve.infinite }
-    ensures curve { IfOk result (λ r. r.0 ≡ curve) }
-    ensures places { let F = K.elements curve.alg.k in
-        IfOk result (λ r. ArePlaces F curve.finite curve.infinite r.1.places) }
-    ensures start { let L = K.lawful curve.alg.k in
-        IfOk result (λ r. IsStart L curve.alg.f r.1) }
-    ensures refused { let L = K.lawful curve.alg.k in
-        IfErr result (HasNoStart L curve.alg.f) }
-{
-    match places_of(alloc, &curve) {
-        Ok(places) => started(alloc, curve, places),
-        Err(NoMemory) => Err(Refusal::NoMemory),
-    }
-}
-
-/// The point of a chart with an index.
-fn point_of<K: FiniteField<E = u32>>(
-    curve: &Curve<K>,
-    places: Places,
-    chart: Chart,
-    index: usize,
-) -> Point
+/// The point with an index.
+fn point_of<K: FiniteField<E = u32>>(curve: &Curve<K>, places: Vec<Point>, index: usize) -> Point
     requires places { let c = curve.now in
-        ArePlaces (K.elements c.alg.k) c.finite c.infinite places }
-    requires index { IsIndex places chart index }
-    ensures { let c = curve.now in let F = K.elements c.alg.k in
-        HasPointForm F c.finite result ⊎ HasPointForm F c.infinite result }
+        ArePlaces (K.lawful c.alg.k) c.alg.f c.finite c.infinite places.items }
+    requires index { index < length places.items }
+    ensures { let c = curve.now in
+        IsPointOf (K.lawful c.alg.k) c.alg.f c.finite c.infinite result }
 {
     let _curve = curve;
-    match chart {
-        Chart::Finite => {
-            let mut items = places.finite.items;
-            items.swap_remove(index)
-        },
-        Chart::Infinite => {
-            let mut items = places.infinite.items;
-            items.swap_remove(index)
-        },
-    }
+    let mut items = places;
+    items.swap_remove(index)
 }
 
 /// The parts of a first equation with its start, and of the second one.
@@ -205,15 +202,15 @@ fn parts_of<K: FiniteField<E = u32>>(
     two: Curve<K>,
 ) -> KeptParts
     requires sep1 { IsSep (K.lawful one.alg.k) one.alg.f one.sep }
-    requires orders1 { AreBothOrders (K.lawful one.alg.k) one.alg.f one.finite one.infinite }
-    requires places { ArePlaces (K.elements one.alg.k) one.finite one.infinite start.places }
+    requires places { let L = K.lawful one.alg.k in
+        ArePlaces L one.alg.f one.finite one.infinite start.places.items }
     requires start { IsStart (K.lawful one.alg.k) one.alg.f start }
     requires sep2 { IsSep (K.lawful one.alg.k) second.now two.sep }
     requires orders2 { AreBothOrders (K.lawful one.alg.k) second.now two.finite two.infinite }
     ensures { AreKept (K.lawful one.alg.k) one.alg.f second.now result }
 {
     let _second = second;
-    let point = point_of(&one, start.places, start.chart, start.index);
+    let point = point_of(&one, start.places, start.index);
     KeptParts {
         sep1: one.sep,
         finite1: one.finite,
@@ -240,9 +237,12 @@ fn kept_with<K: FiniteField<E = u32>>(
     ensures kept { IfOk result (AreKept (K.lawful one.alg.k) one.alg.f second.now) }
     ensures refused { IfErr result (HasNoStart (K.lawful one.alg.k) one.alg.f) }
 {
-    match start_of(alloc, one) {
-        Ok((one, start)) => Ok(parts_of(one, start, second, two)),
-        Err(refusal) => Err(refusal),
+    match start_of(alloc, &one) {
+        Ok(start) => Ok(parts_of(one, start, second, two)),
+        Err(fault) => {
+            drop(two);
+            Err(refusal_of(one, fault))
+        },
     }
 }
 
@@ -264,7 +264,10 @@ fn kept_from<K: FiniteField<E = u32>>(
 {
     match curve_of(alloc, &one.alg.k, second, 2) {
         Ok(two) => kept_with(alloc, one, second, two),
-        Err(refusal) => Err(refusal),
+        Err(refusal) => {
+            drop(one);
+            Err(refusal)
+        },
     }
 }
 

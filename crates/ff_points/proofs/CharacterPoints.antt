@@ -1,10 +1,7 @@
--- The characters of a fibre of an order that is closed under products give points of it, for an
--- equation f over a field whose laws are L.
-use Rattle.std.proofs.Common.{◌≡◌, ℕ, pred, ◌<◌, ◌⊎◌, inl, inr, List, [], length, get_or, refl, sym}
-use Rattle.std.proofs.Common.{◌∙◌, ap, subst, arith, All}
-use Rattle.std.proofs.lemmas.List.{get_or-map, length-map}
-use Rattle.std.proofs.lemmas.List.Elements.{All-map}
-use Rattle.std.specs.Global.{Vec}
+-- The characters of a fibre of an order that is closed under products give points of it, and each
+-- point comes from one, for an equation f over a field whose laws are L.
+use Rattle.std.proofs.Common.{◌≡◌, ℕ, pred, ◌<◌, List, length, refl, sym}
+use Rattle.std.proofs.Common.{◌∙◌, ap, subst, arith}
 use Rattle.ff_theory.specs.Ring.{RingOps, Elements, power}
 use Rattle.ff_theory.specs.Lawful.{Lawful, lawful_field}
 use Rattle.ff_theory.specs.Monomial.{monomial}
@@ -12,7 +9,7 @@ use Rattle.ff_theory.specs.Poly.{polynomials}
 use Rattle.ff_theory.specs.Planes.{Plane}
 use Rattle.ff_theory.specs.Span.{product}
 use Rattle.ff_theory.specs.Values.{poly_of, IsPlane}
-use Rattle.ff_theory.specs.Vector.{vector_of, vectors_of, IsVector}
+use Rattle.ff_theory.specs.Vector.{vector_of, vectors_of}
 use Rattle.ff_theory.proofs.Solver.{◌⊗◌, unit, ring2}
 use Rattle.ff_charts.specs.Chart.{Chart as ChartOf, at_u, at_theta, IsChart}
 use Rattle.ff_charts.specs.Lattice.{HasShape}
@@ -26,7 +23,7 @@ use Rattle.ff_local.proofs.ChartSpanning.{in_over, powers_theta}
 use Rattle.ff_local.proofs.ChartFibre.{fibre}
 use Rattle.ff_local.proofs.Quotients.{times_over}
 use Rattle.ff_values.proofs.FunctionalPoints.{IsDataPoint, functional_data}
-use Rattle.ff_lin.specs.Space.{rows_of, pivot, AreVectors}
+use Rattle.ff_lin.specs.Space.{rows_of, pivot}
 use Rattle.ff_elem.specs.Elem.{algebra_in}
 use Rattle.ff_data.specs.declared.order.Order.{Order}
 use Rattle.ff_data.specs.declared.point.Point.{Point}
@@ -34,20 +31,18 @@ use Rattle.ff_data.specs.Orders.{chart_of, IsOrder, InOrder}
 use Rattle.ff_data.specs.Points.{IsPoint}
 use Rattle.ff_data.proofs.ChartLaws.{algebra_laws, chart_laws, chart_degree}
 use Rattle.ff_data.proofs.LocalOrder.{local_order, order_rows, order_ends, root_modulus}
-use Rattle.ff_characters.specs.Characters.{tables_of, IsCharacter, AreCharacters}
 use Rattle.ff_forms.specs.Forms.{HasPointForm}
 use Rattle.ff_fibre.specs.declared.parts.Fibre.{Fibre}
 use Rattle.ff_fibre.specs.Fibres.{AreCoordinatesOf, IsFibreAt}
 use Rattle.ff_fibre.proofs.PowerPlanes.{monomial_theta}
 use Rattle.ff_fibre.proofs.FibreOfData.{count, congruent_value, data_fibre, functional_value}
 use Rattle.ff_points.specs.PointLists.{IsClosedOrder, ArePowerCoordinates, AreVectorCoordinates}
-use Rattle.ff_points.specs.PointLists.{IsCharacterOf, IsOneOf, IsPointByOne, AreOldOrBy}
-use Rattle.ff_points.specs.PointLists.{IsPointWhereClosed}
+use Rattle.ff_points.specs.PointLists.{IsCharacterOf}
 
 module _ (F : Elements ℕ) (L : Lawful F) (f : List (List ℕ)) (hf : IsPlane F f)
     (two : 1 < length f) (o : Order) (h : IsOrder L f o) (closed : IsClosedOrder L f o)
     (a : F.carrier) (modulus : (chart_of L f o.chart).IsModulus (root_at F.ring a)) (s : Fibre)
-    (b : IsFibreAt L f o a s) (chi : ℕ → F.carrier) (character : IsCharacterOf L f o s chi) where
+    (b : IsFibreAt L f o a s) (chi : ℕ → F.carrier) where
   abbrev A : RingOps
   A = algebra_in L f
 
@@ -64,7 +59,7 @@ module _ (F : Elements ℕ) (L : Lawful F) (f : List (List ℕ)) (hf : IsPlane F
   abbrev G : ChartFibre (chart_of L f o.chart) (local_order F L f hf two o h closed) a
   G = data_fibre F L f hf two o h closed a modulus s b.basis b.products
 
-  abbrev Has : A.carrier → F.carrier → Type 0
+  abbrev pub Has : (algebra_in L f).carrier → F.carrier → Type 0
   Has = HasFunctionalValue (order_in (lawful_field L) (algebra_in L f)
       (algebra_laws F L f hf two) (chart_of L f o.chart) (chart_laws F L f hf two o.chart)
       (local_order F L f hf two o h closed) a modulus) (fibre (lawful_field L) (algebra_in L f)
@@ -90,59 +85,67 @@ module _ (F : Elements ℕ) (L : Lawful F) (f : List (List ℕ)) (hf : IsPlane F
       (monomial (polynomials F.ring) (poly_of F o.d) i) k.0 k.1.0
       ∙ monomial_theta (lawful_field L) A (algebra_laws F L f hf two) c l (poly_of F o.d) i) e k.1.1
 
-  functional : IsFunctional (order_in (lawful_field L) (algebra_in L f)
-      (algebra_laws F L f hf two) (chart_of L f o.chart) (chart_laws F L f hf two o.chart)
-      (local_order F L f hf two o h closed) a modulus) (fibre (lawful_field L) (algebra_in L f)
-      (algebra_laws F L f hf two) (chart_of L f o.chart) (chart_laws F L f hf two o.chart)
-      (local_order F L f hf two o h closed) a modulus G) chi
-  functional = record {
-    unit = subst (Has A.one) character.character.unit (power_value 0 (vector_of F character.one)
-        (powers_in (lawful_field L) A (algebra_laws F L f hf two) c l O a modulus _
-        (powers_one (lawful_field L) A (algebra_laws F L f hf two) c l)) character.coordinates);
-    products = λ i j p q. ap (λ n. product F.ring n (G.table i j) chi) rows_count
-        ∙ character.character.products i (let n = rows_count in omega (arith, p, n)) j
-        (let n = rows_count in omega (arith, q, n));
-  }
+  -- theta, by its coordinates
+  pub theta_value : (theta : ℕ → F.carrier) → ArePowerCoordinates L f o s 1 theta
+      → Has (chart_of L f o.chart).theta (product F.ring (length s.planes.items) theta chi)
+  theta_value theta of_theta = subst (λ t. Has t
+      (product F.ring (length s.planes.items) theta chi)) theta_power
+      (power_value 1 theta (subst (InOrder L f o) (sym theta_power)
+      (powers_in (lawful_field L) A (algebra_laws F L f hf two) c l O a modulus _
+      (powers_theta (lawful_field L) A (algebra_laws F L f hf two) c l))) of_theta)
+    where
+      theta_power : power A c.theta 1 ≡ c.theta
+      theta_power = ring2 A (algebra_laws F L f hf two) (λ t z. t ⊗ unit) (λ t z. t) refl c.theta
+          c.theta
 
-  module _ (theta : ℕ → F.carrier) (basis : ℕ → ℕ → F.carrier)
-      (of_theta : ArePowerCoordinates L f o s 1 theta)
+  -- the elements of the basis of the space, by theirs
+  pub basis_value : (j : ℕ) → j < length o.space.basis → (e : ℕ → F.carrier)
+      → AreVectorCoordinates L f o s (vectors_of F o.space.basis j) e
+      → Has ((algebra_in L f).mul ((chart_laws F L f hf two o.chart).inverse (poly_of F o.d))
+      (at_theta (chart_of L f o.chart) ((local_order F L f hf two o h closed).space.basis j)))
+      (product F.ring (length s.planes.items) e chi)
+  unfolding l
+  basis_value j q e k = has_value _ (in_over (lawful_field L) A
+      (algebra_laws F L f hf two) c l O (O.space.basis j) (O.space.shape j q)
+      (O.space.is_in j q)) k.plane (ap (at_theta c) same ∙ sym (times_over (lawful_field L) A
+      (algebra_laws F L f hf two) c l (poly_of F o.d)
+      (l.modulus_nonzero (poly_of F o.d) h.modulus) (O.space.basis j))) e k.coordinates
+    where
+      same : k.plane ≡ O.space.basis j
+      same = flat_one (lawful_field L) (pred (length o.d)) c.degree k.plane (O.space.basis j)
+          (subst (λ n. HasShape F.ring n (pred (length o.d)) k.plane)
+          (sym (chart_degree F L f hf two o.chart)) k.shape)
+          (subst (λ m. HasShape F.ring c.degree m (O.space.basis j))
+          (sym (order_rows F L f hf two o h)) (O.space.shape j q))
+          (λ i. k.vector i ∙ sym (plane_with_flat (lawful_field L) (pred (length o.d)) c.degree
+          (vectors_of F o.space.basis j) (order_ends F L f hf two o h j q) i))
+
+  -- 1, by its coordinates
+  pub one_value : (one : ℕ → F.carrier) → ArePowerCoordinates L f o s 0 one
+      → Has (algebra_in L f).one (product F.ring (length s.planes.items) one chi)
+  one_value one k = power_value 0 one (powers_in (lawful_field L) A
+      (algebra_laws F L f hf two) c l O a modulus _
+      (powers_one (lawful_field L) A (algebra_laws F L f hf two) c l)) k
+
+  module _ (character : IsCharacterOf L f o s chi) (theta : ℕ → F.carrier)
+      (basis : ℕ → ℕ → F.carrier) (of_theta : ArePowerCoordinates L f o s 1 theta)
       (of_basis : (i : ℕ) → i < length o.space.basis
       → AreVectorCoordinates L f o s (vectors_of F o.space.basis i) (basis i)) (p : Point)
       (theta_is : F.value p.theta ≡ product F.ring (length s.planes.items) theta chi)
       (values : (i : ℕ) → i < length o.space.basis → vector_of F p.values i
       ≡ product F.ring (length s.planes.items) (basis i) chi) where
-    theta_power : power A c.theta 1 ≡ c.theta
-    theta_power = ring2 A (algebra_laws F L f hf two) (λ t z. t ⊗ unit) (λ t z. t) refl c.theta
-        c.theta
-
-    on_theta : Has c.theta (F.value p.theta)
-    on_theta = subst (Has c.theta) (sym theta_is) (subst (λ t. Has t
-        (product F.ring (length s.planes.items) theta chi)) theta_power
-        (power_value 1 theta (subst (InOrder L f o) (sym theta_power)
-        (powers_in (lawful_field L) A (algebra_laws F L f hf two) c l O a modulus _
-        (powers_theta (lawful_field L) A (algebra_laws F L f hf two) c l))) of_theta))
-
-    on_basis : (j : ℕ) → j < length o.space.basis → Has (A.mul
-        ((chart_laws F L f hf two o.chart).inverse (poly_of F o.d))
-        (at_theta c (O.space.basis j))) (vector_of F p.values j)
-    unfolding l
-    on_basis j q = subst (Has _) (sym (values j q)) (has_value _ (in_over (lawful_field L) A
-        (algebra_laws F L f hf two) c l O (O.space.basis j) (O.space.shape j q)
-        (O.space.is_in j q)) k.plane (ap (at_theta c) same ∙ sym (times_over (lawful_field L) A
-        (algebra_laws F L f hf two) c l (poly_of F o.d)
-        (l.modulus_nonzero (poly_of F o.d) h.modulus) (O.space.basis j))) (basis j) k.coordinates)
-      where
-        k : AreVectorCoordinates L f o s (vectors_of F o.space.basis j) (basis j)
-        k = of_basis j q
-
-        same : k.plane ≡ O.space.basis j
-        same = flat_one (lawful_field L) (pred (length o.d)) c.degree k.plane (O.space.basis j)
-            (subst (λ n. HasShape F.ring n (pred (length o.d)) k.plane)
-            (sym (chart_degree F L f hf two o.chart)) k.shape)
-            (subst (λ m. HasShape F.ring c.degree m (O.space.basis j))
-            (sym (order_rows F L f hf two o h)) (O.space.shape j q))
-            (λ i. k.vector i ∙ sym (plane_with_flat (lawful_field L) (pred (length o.d)) c.degree
-            (vectors_of F o.space.basis j) (order_ends F L f hf two o h j q) i))
+    functional : IsFunctional (order_in (lawful_field L) (algebra_in L f)
+        (algebra_laws F L f hf two) (chart_of L f o.chart) (chart_laws F L f hf two o.chart)
+        (local_order F L f hf two o h closed) a modulus) (fibre (lawful_field L) (algebra_in L f)
+        (algebra_laws F L f hf two) (chart_of L f o.chart) (chart_laws F L f hf two o.chart)
+        (local_order F L f hf two o h closed) a modulus G) chi
+    functional = record {
+      unit = subst (Has A.one) character.character.unit
+          (one_value (vector_of F character.one) character.coordinates);
+      products = λ i j p q. ap (λ n. product F.ring n (G.table i j) chi) rows_count
+          ∙ character.character.products i (let n = rows_count in omega (arith, p, n)) j
+          (let n = rows_count in omega (arith, q, n));
+    }
 
     pub data_point : IsDataPoint (lawful_field L) (algebra_in L f) (algebra_laws F L f hf two)
         (chart_of L f o.chart) (chart_laws F L f hf two o.chart) (poly_of F o.d) h.modulus
@@ -154,7 +157,8 @@ module _ (F : Elements ℕ) (L : Lawful F) (f : List (List ℕ)) (hf : IsPlane F
         (pred (length o.d)) (length o.space.basis) (vectors_of F o.space.basis)
         (order_rows F L f hf two o h) (pivot o.space) h.space.space.echelon
         (order_ends F L f hf two o h) closed a modulus G chi functional (F.value p.theta)
-        (vector_of F p.values) on_theta on_basis
+        (vector_of F p.values) (subst (Has c.theta) (sym theta_is) (theta_value theta of_theta))
+        (λ j q. subst (Has _) (sym (values j q)) (basis_value j q (basis j) (of_basis j q)))
 
 -- data over a with the values that a character gives are a point
 pub character_point : (F : Elements ℕ) (L : Lawful F) (f : List (List ℕ)) → IsPlane F f
@@ -194,58 +198,3 @@ character_point F L f hf two o h closed p form s b chi character theta of_theta 
         (F.value p.theta) (vector_of F p.values)
     d = data_point F L f hf two o h closed (F.value p.a) modulus s b chi character theta basis
         of_theta of_basis p theta_is values
-
--- the characters that are found
-pub found_characters : (F : Elements ℕ) (L : Lawful F) (f : List (List ℕ)) (o : Order) (s : Fibre)
-    (one : List ℕ) → length one ≡ length s.planes.items
-    → ArePowerCoordinates L f o s 0 (vector_of F one) → (list : List (Vec ℕ))
-    → AreCharacters F (length one) (tables_of s.table.items) one list → (i : ℕ) → i < length list
-    → IsCharacterOf L f o s (vectors_of F (rows_of list) i)
-found_characters F L f o s one len h list k i l = record {
-  one = one;
-  coordinates = h;
-  character = subst (λ n. IsCharacter F n (tables_of s.table.items) one
-      (vectors_of F (rows_of list) i)) len (k i l).1;
-}
-
-pub found_vectors : (F : Elements ℕ) (n : ℕ) (tables : List (List (List ℕ))) (one : List ℕ)
-    (list : List (Vec ℕ)) → AreCharacters F n tables one list → AreVectors F n list
-found_vectors F n tables one list k i d l = subst (IsVector F n)
-    (get_or-map (λ (r : Vec ℕ). r.items) list i d [] l) (k i l).0
-
--- the old points, and those that characters give
-pub closed_points : (F : Elements ℕ) (L : Lawful F) (f : List (List ℕ)) → IsPlane F f
-    → 1 < length f → (o : Order) → IsOrder L f o → (a : ℕ) (s : Fibre)
-    → IsFibreAt L f o (F.value a) s → (theta : List ℕ)
-    → ArePowerCoordinates L f o s 1 (vector_of F theta) → (basis : List (List ℕ))
-    → length basis ≡ length o.space.basis → ((i : ℕ) → i < length o.space.basis
-    → AreVectorCoordinates L f o s (vectors_of F o.space.basis i) (vectors_of F basis i))
-    → (characters : List (Vec ℕ)) → AreVectors F (length s.planes.items) characters
-    → ((j : ℕ) → j < length characters
-    → IsCharacterOf L f o s (vectors_of F (rows_of characters) j)) → (old list : List Point)
-    → All (IsPointWhereClosed L f o) old → All (HasPointForm F o) list
-    → AreOldOrBy F o a theta basis (rows_of characters) (length characters) old list
-    → All (IsPointWhereClosed L f o) list
-closed_points F L f hf two o h a s b theta of_theta basis same of_basis characters vectors are old
-    list olds forms by i d below = go (by i d below)
-  where
-    long : (j : ℕ) → j < length characters
-        → length (get_or (rows_of characters) j []) ≡ length s.planes.items
-    long j k = (All-map (IsVector F (length s.planes.items)) (λ (r : Vec ℕ). r.items) characters
-        vectors j [] (omega (arith, k, length-map characters (λ (r : Vec ℕ). r.items)))).len
-
-    go : IsOneOf old (get_or list i d) ⊎ IsPointByOne F o a theta basis (rows_of characters)
-        (length characters) (get_or list i d) → IsPointWhereClosed L f o (get_or list i d)
-    go (inl q) = subst (IsPointWhereClosed L f o) (sym q.1.1) (olds q.0 (get_or list i d) q.1.0)
-    go (inr q) = record {
-      form = forms i d below;
-      sound = λ closed. character_point F L f hf two o h closed (get_or list i d) (forms i d below) s
-          (subst (λ t. IsFibreAt L f o (F.value t) s) (sym q.1.1.a_is) b)
-          (vectors_of F (rows_of characters) q.0) (are q.0 q.1.0) (vector_of F theta) of_theta
-          (λ i. vectors_of F basis i) of_basis
-          (subst (λ n. F.value (get_or list i d).theta ≡ product F.ring n (vector_of F theta)
-          (vectors_of F (rows_of characters) q.0)) (long q.0 q.1.0) q.1.1.theta_is)
-          (λ j k. subst (λ n. vector_of F (get_or list i d).values j ≡ product F.ring n
-          (vectors_of F basis j) (vectors_of F (rows_of characters) q.0)) (long q.0 q.1.0)
-          (q.1.1.values_are j (omega (arith, k, same))));
-    }

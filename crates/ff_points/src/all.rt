@@ -7,7 +7,8 @@ ghost use Rattle.ff_data.specs.declared.order.Chart.TheVariants.{Finite, Infinit
 ghost use Rattle.ff_data.specs.Orders.{chart_of, IsOrder};
 ghost use Rattle.ff_data.specs.Points.{IsPoint};
 ghost use Rattle.ff_forms.specs.Forms.{HasPointForm};
-ghost use Rattle.ff_points.specs.PointLists.{IsClosedOrder, IsPointWhereClosed};
+ghost use Rattle.ff_points.specs.PointLists.{IsClosedOrder, AreAmong, AreRising};
+ghost use Rattle.ff_points.specs.PointLists.{AreRisingPoints, HasPointsOver, HasAllPoints};
 
 use crate::fibres::insert_points_at;
 use crate::list::PointList;
@@ -36,9 +37,12 @@ fn insert_points_over<K: FiniteField<E = u32>>(
     requires at_infinity { let F = K.elements alg.now.k in
         order.now.chart ≡ Infinite → F.value a ≡ F.zero }
     requires list { let L = K.lawful alg.now.k in
-        All (IsPointWhereClosed L alg.now.f order.now) list.old.items }
-    ensures { let L = K.lawful alg.now.k in
-        OnOk result (All (IsPointWhereClosed L alg.now.f order.now) list.new.items) }
+        AreRisingPoints L alg.now.f order.now list.old.items }
+    ensures list { let L = K.lawful alg.now.k in
+        OnOk result (AreRisingPoints L alg.now.f order.now list.new.items) }
+    ensures kept { OnOk result (AreAmong list.old.items list.new.items) }
+    ensures over { let L = K.lawful alg.now.k in
+        OnOk result (HasPointsOver L alg.now.f order.now a list.new.items) }
 {
     if !has_root_over(alloc, &alg.k, equation.rows(), a)? {
         return Ok(());
@@ -59,8 +63,10 @@ fn points_over_all<K: FiniteField<E = u32>>(
     requires equation { IsPlane (K.elements alg.now.k) equation.now }
     requires equation_is { let F = K.elements alg.now.k in let L = K.lawful alg.now.k in
         plane_of F equation.now ≡ (chart_of L alg.now.f order.now.chart).equation }
-    ensures { let L = K.lawful alg.now.k in
-        IfOk result (λ r. All (IsPointWhereClosed L alg.now.f order.now) r.items) }
+    ensures list { let L = K.lawful alg.now.k in
+        IfOk result (λ r. AreRisingPoints L alg.now.f order.now r.items) }
+    ensures all { let L = K.lawful alg.now.k in
+        IfOk result (λ r. HasAllPoints L alg.now.f order.now r.items) }
 {
     let mut list = Vec::new(alloc);
     for i in 0..alg.k.count() {
@@ -77,11 +83,14 @@ fn points_over_zero<K: FiniteField<E = u32>>(
     equation: &Plane,
 ) -> Result<Vec<Point>, NoMemory>
     requires order { IsOrder (K.lawful alg.now.k) alg.now.f order.now }
+    requires infinite { order.now.chart ≡ Infinite }
     requires equation { IsPlane (K.elements alg.now.k) equation.now }
     requires equation_is { let F = K.elements alg.now.k in let L = K.lawful alg.now.k in
         plane_of F equation.now ≡ (chart_of L alg.now.f order.now.chart).equation }
-    ensures { let L = K.lawful alg.now.k in
-        IfOk result (λ r. All (IsPointWhereClosed L alg.now.f order.now) r.items) }
+    ensures list { let L = K.lawful alg.now.k in
+        IfOk result (λ r. AreRisingPoints L alg.now.f order.now r.items) }
+    ensures all { let L = K.lawful alg.now.k in
+        IfOk result (λ r. HasAllPoints L alg.now.f order.now r.items) }
 {
     let mut list = Vec::new(alloc);
     insert_points_over(alloc, alg, order, equation, alg.k.zero(), &mut list)?;
@@ -95,8 +104,10 @@ fn points_in_chart<K: FiniteField<E = u32>>(
     order: &Order,
 ) -> Result<Vec<Point>, NoMemory>
     requires { IsOrder (K.lawful alg.now.k) alg.now.f order.now }
-    ensures { let L = K.lawful alg.now.k in
-        IfOk result (λ r. All (IsPointWhereClosed L alg.now.f order.now) r.items) }
+    ensures list { let L = K.lawful alg.now.k in
+        IfOk result (λ r. AreRisingPoints L alg.now.f order.now r.items) }
+    ensures all { let L = K.lawful alg.now.k in
+        IfOk result (λ r. HasAllPoints L alg.now.f order.now r.items) }
 {
     let equation = chart_equation(alloc, alg, order.chart)?;
     match order.chart {
@@ -118,6 +129,9 @@ pub fn points<K: FiniteField<E = u32>>(
         IfOk result (All (HasPointForm F order.now)) }
     ensures sound { let L = K.lawful alg.now.k in let f = alg.now.f in
         IfOk result (λ r. IsClosedOrder L f order.now → All (IsPoint L f order.now) r) }
+    ensures complete { let L = K.lawful alg.now.k in let f = alg.now.f in
+        IfOk result (HasAllPoints L f order.now) }
+    ensures rising { IfOk result (AreRising (K.elements alg.now.k)) }
 {
     let items = points_in_chart(alloc, alg, order)?;
     Ok(PointList { items })

@@ -1,5 +1,5 @@
 // The points of an order over an element of the field, by the characters of its algebra there.
-ghost use Rattle.std.specs.Prelude.{◌≡◌, ℕ, ◌<◌, length, IfOk, OnOk};
+ghost use Rattle.std.specs.Prelude.{◌≡◌, ℕ, ◌*◌, ◌<◌, pred, length, IfOk, OnOk};
 ghost use Rattle.std.specs.List.{All};
 ghost use Rattle.ff_theory.specs.Ring.{IsElement};
 ghost use Rattle.ff_theory.specs.Values.{plane_of, IsPlane};
@@ -7,12 +7,12 @@ ghost use Rattle.ff_theory.specs.Span.{product};
 ghost use Rattle.ff_theory.specs.Vector.{vector_of, vectors_of, IsVector};
 ghost use Rattle.ff_lin.specs.Space.{rows_of, AreVectors};
 ghost use Rattle.ff_data.specs.declared.order.Chart.TheVariants.{Infinite};
-ghost use Rattle.ff_data.specs.Orders.{chart_of, IsOrder};
+ghost use Rattle.ff_data.specs.Orders.{chart_of, y_degree, IsOrder};
 ghost use Rattle.ff_fibre.specs.Fibres.{HasBasisForm, HasFibreForm, IsFibreAt};
 ghost use Rattle.ff_forms.specs.Forms.{HasPointForm};
 ghost use Rattle.ff_points.specs.PointLists.{ArePowerCoordinates, AreVectorCoordinates};
-ghost use Rattle.ff_points.specs.PointLists.{IsCharacterOf, IsPointBy, AreOldOrBy};
-ghost use Rattle.ff_points.specs.PointLists.{IsPointWhereClosed};
+ghost use Rattle.ff_points.specs.PointLists.{AreCharactersOf, IsPointBy, AreWithCharacters};
+ghost use Rattle.ff_points.specs.PointLists.{AreAmong, AreRising, AreRisingPoints, HasPointsOver};
 
 use crate::keys::insert;
 use ff_alg::{FiniteField, NoMemory};
@@ -50,6 +50,28 @@ fn power_coordinates<K: FiniteField<E = u32>>(
     coordinates(alloc, alg, fibre, &plane)
 }
 
+/// The coordinates of the element that a vector of the order's space stands for.
+fn vector_coordinates<K: FiniteField<E = u32>>(
+    alloc: Global,
+    alg: &Alg<K>,
+    order: &Order,
+    fibre: &Fibre,
+    v: &[u32],
+) -> Result<Vec<u32>, NoMemory>
+    requires order { IsOrder (K.lawful alg.now.k) alg.now.f order.now }
+    requires fibre { HasBasisForm (K.lawful alg.now.k) alg.now.f fibre.now }
+    requires vector { let L = K.lawful alg.now.k in
+        IsVector (K.elements alg.now.k) (y_degree L alg.now.f * pred (length order.now.d)) v.now }
+    ensures vector { let F = K.elements alg.now.k in
+        IfOk result (λ r. IsVector F (length fibre.now.planes.items) r.items) }
+    ensures value { let F = K.elements alg.now.k in let L = K.lawful alg.now.k in
+        IfOk result (λ r. AreVectorCoordinates L alg.now.f order.now fibre.now
+        (vector_of F v.now) (vector_of F r.items)) }
+{
+    let plane = basis_numerator(alloc, alg, order, v)?;
+    coordinates(alloc, alg, fibre, &plane)
+}
+
 /// The coordinates of the elements that the basis of the order's space stands for.
 fn basis_coordinates<K: FiniteField<E = u32>>(
     alloc: Global,
@@ -69,8 +91,7 @@ fn basis_coordinates<K: FiniteField<E = u32>>(
 {
     let mut list = Vec::new(alloc);
     for v in order.space.basis() {
-        let plane = basis_numerator(alloc, alg, order, v)?;
-        list.push(coordinates(alloc, alg, fibre, &plane)?)?;
+        list.push(vector_coordinates(alloc, alg, order, fibre, v)?)?;
     }
     Ok(list)
 }
@@ -88,11 +109,8 @@ fn characters_of<K: FiniteField<E = u32>>(
     requires equation { IsPlane (K.elements alg.now.k) equation.now }
     requires equation_is { let F = K.elements alg.now.k in let L = K.lawful alg.now.k in
         plane_of F equation.now ≡ (chart_of L alg.now.f order.now.chart).equation }
-    ensures vectors { let F = K.elements alg.now.k in
-        IfOk result (λ r. AreVectors F (length fibre.now.planes.items) r.items) }
-    ensures value { let F = K.elements alg.now.k in let L = K.lawful alg.now.k in
-        IfOk result (λ r. (i : ℕ) → i < length r.items → IsCharacterOf L alg.now.f order.now
-        fibre.now (vectors_of F (rows_of r.items) i)) }
+    ensures { let L = K.lawful alg.now.k in
+        IfOk result (λ r. AreCharactersOf L alg.now.f order.now fibre.now r.items) }
 {
     let one = power_coordinates(alloc, alg, order, fibre, equation, 0)?;
     let whole = Space::kernel(alloc, &alg.k, one.len(), &[])?;
@@ -169,8 +187,8 @@ fn insert_points<K: FiniteField<E = u32>>(
     requires count { length basis.now ≡ length order.now.space.basis }
     requires characters { AreVectors (K.elements k.now) (length theta.now) characters.now }
     requires list { All (HasPointForm (K.elements k.now) order.now) list.old.items }
-    ensures form { OnOk result (All (HasPointForm (K.elements k.now) order.now) list.new.items) }
-    ensures by { let F = K.elements k.now in OnOk result (AreOldOrBy F order.now a theta.now
+    requires rising { AreRising (K.elements k.now) list.old.items }
+    ensures { let F = K.elements k.now in OnOk result (AreWithCharacters F order.now a theta.now
         (rows_of basis.now) (rows_of characters.now) (length characters.now) list.old.items
         list.new.items) }
 {
@@ -202,9 +220,12 @@ pub(crate) fn insert_points_at<K: FiniteField<E = u32>>(
     requires equation_is { let F = K.elements alg.now.k in let L = K.lawful alg.now.k in
         plane_of F equation.now ≡ (chart_of L alg.now.f order.now.chart).equation }
     requires list { let L = K.lawful alg.now.k in
-        All (IsPointWhereClosed L alg.now.f order.now) list.old.items }
-    ensures { let L = K.lawful alg.now.k in
-        OnOk result (All (IsPointWhereClosed L alg.now.f order.now) list.new.items) }
+        AreRisingPoints L alg.now.f order.now list.old.items }
+    ensures list { let L = K.lawful alg.now.k in
+        OnOk result (AreRisingPoints L alg.now.f order.now list.new.items) }
+    ensures kept { OnOk result (AreAmong list.old.items list.new.items) }
+    ensures over { let L = K.lawful alg.now.k in
+        OnOk result (HasPointsOver L alg.now.f order.now a list.new.items) }
 {
     let theta = power_coordinates(alloc, alg, order, fibre, equation, 1)?;
     let basis = basis_coordinates(alloc, alg, order, fibre)?;

@@ -1,22 +1,19 @@
 -- What reduction modulo powers gives: relations, and multiples that are sums of powers.
-use Rattle.std.proofs.Common.{◌≡◌, ℕ, zero, suc, ◌+◌, ◌*◌, ◌<◌, ◌≤◌, ◌⊎◌, inl, inr, Bool, true, false}
-use Rattle.std.proofs.Common.{[], ◌∷◌, refl, sym, ◌∙◌, ap, ap₂, subst, arith}
+use Rattle.std.proofs.Common.{◌≡◌, ℕ, zero, suc, ◌+◌, ◌*◌, ◌<◌, ◌≤◌, ◌⊎◌, inl, inr, Bool, true}
+use Rattle.std.proofs.Common.{false}
+use Rattle.std.proofs.Common.{[], ◌∷◌, refl, sym, ◌∙◌, ap, subst, arith}
 use Rattle.std.proofs.lemmas.Bool.{cases_lt}
 use Rattle.ff_theory.specs.Ring.{RingOps, IsCommRing, power}
 use Rattle.ff_theory.specs.Lawful.{Field, Domain}
-use Rattle.ff_theory.specs.Lists.{listed}
 use Rattle.ff_theory.specs.Monomial.{variable}
 use Rattle.ff_theory.specs.Poly.{coeff, Poly, poly, polynomials}
-use Rattle.ff_theory.specs.Span.{InSpan, Dependence, combination, unit_at}
 use Rattle.ff_theory.specs.Sum.{sum_below}
-use Rattle.ff_theory.proofs.Dependence.{dependence}
 use Rattle.ff_theory.proofs.Division.{const, const_mul_at}
-use Rattle.ff_theory.proofs.Listed.{listed-at, listed-past}
 use Rattle.ff_theory.proofs.Poly.{Poly_ext}
 use Rattle.ff_theory.proofs.PolyMap.{polynomial_domain}
-use Rattle.ff_theory.proofs.Solver.{◌⊕◌, ◌⊗◌, neg, nil, unit, ring1, ring2, ring3, ring4, mul_zero, zero_mul}
+use Rattle.ff_theory.proofs.Solver.{◌⊕◌, neg, ring2, ring3, mul_zero}
 use Rattle.ff_theory.proofs.Span.{unit-other}
-use Rattle.ff_theory.proofs.Sums.{sum-ext, sum-zero, sum-add, sum-mul}
+use Rattle.ff_theory.proofs.Sums.{sum-ext, sum-zero, sum-add}
 use Rattle.ff_table.specs.Coords.{Coords}
 use Rattle.ff_table.specs.Table.{Table, IsTable, table_ring, Weighs}
 use Rattle.ff_table.specs.Leading.{part}
@@ -24,11 +21,9 @@ use Rattle.ff_table.specs.Level.{z_multiple, scaled}
 use Rattle.ff_table.specs.Reduce.{IsClear}
 use Rattle.ff_table.specs.Powers.{IsPrimeTo, is_reached, power_sum, IsPowerSum, IsRelation}
 use Rattle.ff_table.proofs.Back.{rest-zero, power-sum, relation_of_sum}
-use Rattle.ff_table.proofs.LinearRelation.{nonzero_factor}
 use Rattle.ff_table.proofs.Monomials.{power-coeff}
 use Rattle.ff_table.proofs.Multiples.{of_coefficients, coefficient, spread}
 use Rattle.ff_table.proofs.PowerSums.{in_add, in_zero, in-multiple}
-use Rattle.ff_table.proofs.RootOrders.{last}
 use Rattle.ff_table.proofs.Scalars.{part-zero, part-sum, part-ext, multiple-add}
 use Rattle.ff_table.proofs.TableRing.{table_laws}
 use Rattle.ff_table.proofs.Under.{coeff-sum}
@@ -73,7 +68,8 @@ module _ (K : Field) (s : Table K.ring) (table : IsTable K.ring s)
       → ((j : ℕ) → j < s.rank → r j ≡ (polynomials K.ring).neg (A j))
       → IsRelation K.ring s w r
   relation-found A r a rest p e clear h = record {
-    vanishes = ap (T.add (power T w s.rank)) (power_sum-ext r (λ j. P.neg (A j)) h) ∙ found.vanishes;
+    vanishes = ap (T.add (power T w s.rank)) (power_sum-ext r (λ j. P.neg (A j)) h)
+        ∙ found.vanishes;
     least = found.least;
   }
     where

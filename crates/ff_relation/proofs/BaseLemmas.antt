@@ -1,7 +1,8 @@
 -- Powers in the ring, their leading coefficients, and the lists that reduction needs.
-use Rattle.std.proofs.Common.{◌≡◌, ℕ, zero, suc, pred, ◌+◌, ◌-◌, ◌*◌, ◌/◌, ◌%◌, ◌<◌, ◌≤◌, ◌⊎◌, inl, inr}
-use Rattle.std.proofs.Common.{List, [], ◌∷◌, ◌++◌, length, map, get_or, set, refl, sym, ◌∙◌, ap, ap₂}
-use Rattle.std.proofs.Common.{subst, arith, All}
+use Rattle.std.proofs.Common.{◌≡◌, ℕ, suc, pred, ◌+◌, ◌-◌, ◌*◌, ◌%◌, ◌<◌, ◌≤◌, ◌⊎◌, inl, inr}
+use Rattle.std.proofs.Common.{List, [], ◌∷◌, ◌++◌, length, map, get_or, set, refl, sym, ◌∙◌, ap}
+use Rattle.std.proofs.Common.{ap₂}
+use Rattle.std.proofs.Common.{subst, arith}
 use Rattle.std.specs.List.{Contains}
 use Rattle.std.proofs.lemmas.Bool.{cases_lt}
 use Rattle.std.proofs.lemmas.List.{length-map, length-append, get_or-set_same, get_or-set_other}
@@ -10,16 +11,16 @@ use Rattle.std.proofs.lemmas.List.Elements.{Contains-append_left, Contains-push}
 use Rattle.std.proofs.Math.Nat.{mod-eq_of_lt}
 use Rattle.ff_theory.specs.Ring.{RingOps, IsCommRing, Elements, power}
 use Rattle.ff_theory.specs.Lawful.{Lawful, Field, lawful_field}
-use Rattle.ff_theory.specs.Poly.{coeff, Poly, poly}
+use Rattle.ff_theory.specs.Poly.{coeff, poly}
 use Rattle.ff_theory.specs.Division.{size, leading_coeff}
 use Rattle.ff_theory.specs.Span.{unit_at}
 use Rattle.ff_theory.specs.Values.{poly_of, polys_over, IsPoly, leading}
 use Rattle.ff_theory.proofs.Poly.{trim_same, polynomial_laws}
 use Rattle.ff_poly.proofs.RowLists.{row-value}
 use Rattle.ff_table.specs.Coords.{at, product_at as table_product}
-use Rattle.ff_table.specs.Level.{at_level, class_of, z_multiple, basis}
+use Rattle.ff_table.specs.Level.{at_level, class_of}
 use Rattle.ff_table.specs.Powers.{IsPrimeTo}
-use Rattle.ff_table.specs.Table.{Table, IsTable, Weighs}
+use Rattle.ff_table.specs.Table.{Table, Weighs}
 use Rattle.ff_table.proofs.Coords.{coords_ext, coords-at}
 use Rattle.ff_table.proofs.InCode.{mul_by_entries}
 use Rattle.ff_table.proofs.Laws.{zero_at}
@@ -34,13 +35,13 @@ use Rattle.ff_data.specs.declared.system.System.{System}
 use Rattle.ff_data.specs.Systems.{AreCoords, term_weight, weight_at}
 use Rattle.ff_ring.specs.declared.weight.Term.{Term}
 use Rattle.ff_ring.specs.Entries.{entry_at, AreEntries}
-use Rattle.ff_ring.specs.Ring.{HasTable, MeetsRule, table_in, ring_in, element_in, product, table_entry}
+use Rattle.ff_ring.specs.Ring.{MeetsRule, table_in, ring_in, element_in, product, table_entry}
 use Rattle.ff_ring.specs.Weight.{IsTop, AreZero}
 use Rattle.ff_ring.proofs.ProductLemmas.{at-each}
 use Rattle.ff_ring.proofs.RingElements.{element-at}
 use Rattle.ff_relation.specs.declared.bases.Gap.{Gap}
-use Rattle.ff_relation.specs.InRing.{number_at, basis_in, multiple_in, ArePowersOf, AreInverses}
-use Rattle.ff_relation.specs.InRing.{AreExponents, HasGaps, HaveGaps}
+use Rattle.ff_relation.specs.InRing.{number_at, basis_in, multiple_in, ArePowersOf}
+use Rattle.ff_relation.specs.InRing.{AreExponents, HasGaps}
 
 -- the exponents of the classes, one more entered
 pub class-step : (e W j m : ℕ) (old : List ℕ) → (j * W) % e < length old → m ≡ j + 1
@@ -114,7 +115,8 @@ gaps-more limits old new l n e kept own h i q = go (cases_lt i l)
 pub gaps-push : (gaps new : List Gap) (class n m : ℕ) (g : Gap) → new ≡ gaps ++ g ∷ []
     → g ≡ record { class = class; degree = n } → m ≡ n + 1 → HasGaps class n gaps
     → HasGaps class m new
-gaps-push gaps new class n m g e f k h d q = subst (λ t. Contains t (record { class = class; degree = d }))
+gaps-push gaps new class n m g e f k h d q = subst
+    (λ t. Contains t (record { class = class; degree = d }))
     (sym e) (go (cases_lt d n))
   where
     go : (d < n) ⊎ (n ≤ d) → Contains (gaps ++ g ∷ []) (record { class = class; degree = d })
@@ -174,7 +176,8 @@ module _ (F : Elements ℕ) (L : Lawful F) (s : System) where
       go (inl l) = ap (element_in F s) (get_or_append_left list (c ∷ []) [] j l) ∙ h j l
       go (inr l) = let i : j ≡ length list =
           omega (arith, l, q, ap length f, length-append list (c ∷ [])) in
-          ap (element_in F s) (get_or_push list c [] j (sym i)) ∙ k ∙ ap (power (ring_in F s) w) (sym i)
+          ap (element_in F s) (get_or_push list c [] j (sym i)) ∙ k
+          ∙ ap (power (ring_in F s) w) (sym i)
 
   -- the size and the leading coefficient of a polynomial
   poly-size : (p : List ℕ) → IsPoly F p → size F.ring (poly_of F p) ≡ length p
@@ -228,7 +231,7 @@ module _ (F : Elements ℕ) (L : Lawful F) (s : System) where
             ap₂ (λ n m. n * m) (sym rank) d in
             omega (arith, w, f)
 
-    zero-top : (h : List (List ℕ)) → AreCoords F s h → AreZero h
+    pub zero-top : (h : List (List ℕ)) → AreCoords F s h → AreZero h
         → element_in F s h ≡ (ring_in F s).zero
     zero-top h c z = coords_ext P e _ _ (λ l q. element-at F L s h l q ∙ sym (row-value F h l)
         ∙ ap (poly_of F) (z l (omega (arith, q, c.count, rank)))

@@ -1,5 +1,6 @@
 -- Greatest common divisors as differences of multiples, and weights that are prime to e.
-use Rattle.std.proofs.Common.{◌≡◌, ℕ, zero, suc, ◌+◌, ◌*◌, ◌/◌, ◌%◌, ◌<◌, ◌≤◌, ◌⊎◌, inl, inr, refl, sym, ◌∙◌, ap, subst}
+use Rattle.std.proofs.Common.{◌≡◌, ℕ, zero, suc, ◌+◌, ◌*◌, ◌/◌, ◌%◌, ◌<◌, ◌≤◌, ◌⊎◌, inl, inr, sym}
+use Rattle.std.proofs.Common.{◌∙◌, ap, subst}
 use Rattle.std.proofs.Common.{mul_comm, arith}
 use Rattle.std.proofs.Math.Nat.{div-add-mod, mul-add, mul-one, mul_assoc, mul-add-mod_self_left}
 use Rattle.std.proofs.lemmas.Bool.{cases_lt}

@@ -1,5 +1,6 @@
 -- Of more vectors than entries one is a combination of those before it.
-use Rattle.std.proofs.Common.{◌≡◌, ℕ, zero, suc, ◌<◌, ◌≤◌, ◌⊎◌, inl, inr, sym, ◌∙◌, ap, ap₂, subst, arith, refl}
+use Rattle.std.proofs.Common.{◌≡◌, ℕ, zero, suc, ◌<◌, ◌≤◌, ◌⊎◌, inl, inr, sym, ◌∙◌, ap, ap₂, subst}
+use Rattle.std.proofs.Common.{arith, refl}
 use Rattle.std.proofs.lemmas.Bool.{cases_lt}
 use Rattle.ff_theory.specs.Ring.{RingOps}
 use Rattle.ff_theory.specs.Lawful.{Field}
@@ -9,7 +10,8 @@ use Rattle.ff_theory.specs.Span.{InSpan, Dependence, combination}
 use Rattle.ff_theory.specs.Sum.{sum_below}
 use Rattle.ff_theory.proofs.Dependence.{dependence}
 use Rattle.ff_theory.proofs.Listed.{listed-at, listed-past}
-use Rattle.ff_theory.proofs.Solver.{◌⊕◌, ◌⊗◌, neg, nil, unit, ring1, ring2, ring4, mul_zero, zero_mul}
+use Rattle.ff_theory.proofs.Solver.{◌⊕◌, ◌⊗◌, neg, nil, unit, ring1, ring2, ring4, mul_zero}
+use Rattle.ff_theory.proofs.Solver.{zero_mul}
 use Rattle.ff_theory.proofs.Sums.{sum-ext, sum-zero, sum-mul}
 use Rattle.ff_table.proofs.LinearRelation.{nonzero_factor}
 use Rattle.ff_table.proofs.RootOrders.{last}

@@ -1,6 +1,6 @@
 -- Reduction modulo powers: one level, from the highest level down.
-use Rattle.std.proofs.Common.{◌≡◌, ℕ, zero, suc, ◌+◌, ◌-◌, ◌*◌, ◌/◌, ◌%◌, ◌<◌, ◌≤◌, ◌⊎◌, inl, inr, Bool}
-use Rattle.std.proofs.Common.{true, false, [], ◌∷◌, refl, sym, ◌∙◌, ap, ap₂, subst, arith}
+use Rattle.std.proofs.Common.{◌≡◌, ℕ, suc, ◌+◌, ◌-◌, ◌*◌, ◌/◌, ◌%◌, ◌<◌, ◌≤◌, ◌⊎◌, inl, inr, Bool}
+use Rattle.std.proofs.Common.{true, false, refl, sym, ◌∙◌, ap, subst, arith}
 use Rattle.std.proofs.lemmas.Bool.{cases_lt}
 use Rattle.std.proofs.Math.Nat.{div-add-mod, mul-add}
 use Rattle.ff_theory.specs.Ring.{RingOps, IsCommRing, IsTested, power}
@@ -22,7 +22,7 @@ use Rattle.ff_table.proofs.One.{one-weight}
 use Rattle.ff_table.proofs.Powers.{power-weight}
 use Rattle.ff_table.proofs.Scalars.{multiple-at}
 use Rattle.ff_table.proofs.Levels.{part-level, weighs-level, weighs-nonzero, is-level}
-use Rattle.ff_table.proofs.ReduceSteps.{clear-step, reached-below}
+use Rattle.ff_table.proofs.ReduceSteps.{clear-step}
 
 module _ (R : RingOps) (laws : IsCommRing R) (tests : IsTested R) where
   pub poly-self : (p : Poly R) → poly R p.coeffs ≡ p
@@ -34,7 +34,8 @@ module _ (R : RingOps) (laws : IsCommRing R) (tests : IsTested R) where
       → coeff R ((polynomials R).mul (monomial R x n) p).coeffs d
       ≡ coeff R (raised R n (list_scale R x p.coeffs)) d
   unfolding poly
-  monomial-coeff x n p d = ap (λ (q : Poly R). coeff R ((polynomials R).mul (monomial R x n) q).coeffs d)
+  monomial-coeff x n p d = ap
+      (λ (q : Poly R). coeff R ((polynomials R).mul (monomial R x n) q).coeffs d)
       (sym (poly-self p))
       ∙ ap (λ (q : Poly R). coeff R q.coeffs d) (monomial-mul R laws tests n x p.coeffs)
       ∙ trim-coeff R laws tests (raised R n (list_scale R x p.coeffs)) d
@@ -84,7 +85,8 @@ module _ (K : Field) (s : Table K.ring) (table : IsTable K.ring s) where
       true-false h = cc
 
   pub clear-no_level : (reached : ℕ → Bool) (t : ℕ) (a : Coords (polynomials K.ring) s.rank)
-      → t < s.weight (t % s.rank) → IsClear K.ring s reached (suc t) a → IsClear K.ring s reached t a
+      → t < s.weight (t % s.rank) → IsClear K.ring s reached (suc t) a
+      → IsClear K.ring s reached t a
   clear-no_level reached t a low = clear-level reached t a (λ l d q e on. absurd (no l d q e))
     where
       no : (l d : ℕ) → l < s.rank → ¬ (s.rank * d + s.weight l ≡ t)

@@ -10,3 +10,5 @@ pub mod LastInSpan
 pub mod SplitLemmas
 pub mod BaseLemmas
 pub mod RelationLemmas
+-- Rests of multiples by powers of z
+pub mod RestLemmas

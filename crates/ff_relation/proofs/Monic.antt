@@ -1,13 +1,15 @@
 -- Monic polynomials.
-use Rattle.std.proofs.Common.{◌≡◌, ℕ, zero, suc, ◌+◌, ◌-◌, ◌<◌, List, [], ◌∷◌, ◌++◌, length, map}
+use Rattle.std.proofs.Common.{◌≡◌, ℕ, zero, suc, ◌+◌, ◌-◌, ◌<◌, ◌≤◌, ◌⊎◌, inl, inr, List, [], ◌∷◌}
+use Rattle.std.proofs.Common.{◌++◌, length, map}
 use Rattle.std.proofs.Common.{refl, sym, ◌∙◌}
 use Rattle.std.proofs.Common.{ap, ap₂, arith}
+use Rattle.std.proofs.lemmas.Bool.{cases_lt}
 use Rattle.ff_theory.specs.Ring.{Elements}
 use Rattle.ff_theory.specs.Lawful.{Lawful}
-use Rattle.ff_theory.specs.Poly.{coeff, Poly, polynomials}
+use Rattle.ff_theory.specs.Poly.{coeff, Poly}
 use Rattle.ff_theory.specs.Division.{size}
 use Rattle.ff_theory.specs.Vector.{vector_of}
-use Rattle.ff_theory.specs.Values.{poly_of, polys_over, IsPoly, leading}
+use Rattle.ff_theory.specs.Values.{poly_of, polys_over, IsPoly}
 use Rattle.ff_theory.proofs.Coeffs.{coeff-past}
 use Rattle.ff_theory.proofs.Product.{poly-coeff}
 use Rattle.ff_theory.proofs.Series.{mul_top}
@@ -15,6 +17,7 @@ use Rattle.ff_theory.proofs.Division.{mul_at, zero_from, size-mul}
 use Rattle.ff_poly.proofs.LongDivision.{poly-size}
 use Rattle.ff_charts.proofs.Rows.{exact_size}
 use Rattle.ff_relation.specs.Reduction.{IsMonic}
+use Rattle.ff_relation.specs.InRing.{IsMonicLess}
 
 module _ {F : Elements ℕ} (L : Lawful F) where
   -- a polynomial whose coefficient n is 1 and whose later ones are 0
@@ -89,3 +92,40 @@ module _ {F : Elements ℕ} (L : Lawful F) where
   pushed-last [] x (suc n) e = absurd (omega (arith, e))
   pushed-last (y ∷ xs) x zero e = absurd (omega (arith, e))
   pushed-last (y ∷ xs) x (suc n) e = pushed-last xs x n (omega (arith, e))
+
+  -- the entries of a list with one more
+  vector-before : (xs : List ℕ) (x j : ℕ) → j < length xs
+      → vector_of F (xs ++ x ∷ []) j ≡ vector_of F xs j
+  vector-before [] x j q = absurd (omega (arith, q))
+  vector-before (y ∷ xs) x zero q = refl
+  vector-before (y ∷ xs) x (suc j) q = vector-before xs x j (omega (arith, q))
+
+  pub entries-pushed : (A : ℕ → F.carrier) (xs new : List ℕ) (x n : ℕ) → new ≡ xs ++ x ∷ []
+      → length xs ≡ n → ((j : ℕ) → j < n → vector_of F xs j ≡ A j) → F.value x ≡ A n
+      → (j : ℕ) → j < n + 1 → vector_of F new j ≡ A j
+  entries-pushed A xs new x n e k h o j q = ap (λ t. vector_of F t j) e ∙ go (cases_lt j n)
+    where
+      go : (j < n) ⊎ (n ≤ j) → vector_of F (xs ++ x ∷ []) j ≡ A j
+      go (inl l) = vector-before xs x j (omega (arith, l, k)) ∙ h j l
+      go (inr l) = let i : j ≡ n = omega (arith, l, q) in
+          pushed-last xs x j (k ∙ sym i) ∙ o ∙ ap A (sym i)
+
+  pub pushed-below : (A : ℕ → F.carrier) (xs new : List ℕ) (x n : ℕ) → new ≡ xs ++ x ∷ []
+      → length xs ≡ n → ((j : ℕ) → j < n → vector_of F xs j ≡ A j) → (j : ℕ) → j < n
+      → vector_of F new j ≡ A j
+  pushed-below A xs new x n e k h j q = ap (λ t. vector_of F t j) e
+      ∙ vector-before xs x j (omega (arith, q, k)) ∙ h j q
+
+  -- the polynomial of the negatives of a list and 1
+  pub less-list : (c r p : List ℕ) → poly_of F p ≡ poly_of F r → length r ≡ length c + 1
+      → vector_of F r (length c) ≡ F.one
+      → ((i : ℕ) → i < length c → vector_of F r i ≡ F.neg (vector_of F c i)) → IsMonicLess F c p
+  less-list c r p e l one low = record {
+    low = λ i q. at i ∙ low i q;
+    one = at (length c) ∙ one;
+    past = λ i q. at i ∙ coeff-past F.ring F.value r i (omega (arith, q, l));
+  }
+    where
+      at : (i : ℕ) → coeff F.ring (poly_of F p).coeffs i ≡ vector_of F r i
+      at i = ap (λ (t : Poly F.ring). coeff F.ring t.coeffs i) e
+          ∙ poly-coeff F.ring L.laws L.tests (map F.value r) i

@@ -1,6 +1,6 @@
 -- Elements that are split into a sum of multiples of powers and a rest, by their coordinates.
-use Rattle.std.proofs.Common.{◌≡◌, ℕ, zero, suc, ◌+◌, ◌-◌, ◌*◌, ◌/◌, ◌%◌, ◌<◌, ◌≤◌, ◌⊎◌, inl, inr, Bool}
-use Rattle.std.proofs.Common.{true, false, List, [], ◌∷◌, ◌++◌, length, map, get_or, max, set, refl, sym, ◌∙◌, ap}
+use Rattle.std.proofs.Common.{◌≡◌, ℕ, zero, suc, ◌+◌, ◌-◌, ◌*◌, ◌/◌, ◌%◌, ◌<◌, ◌≤◌, ◌⊎◌, inl, inr}
+use Rattle.std.proofs.Common.{List, [], ◌∷◌, ◌++◌, length, map, get_or, set, refl, sym, ◌∙◌, ap}
 use Rattle.std.proofs.Common.{ap₂, subst, arith, All}
 use Rattle.std.specs.Global.{Vec}
 use Rattle.std.proofs.lemmas.Bool.{cases_lt}
@@ -26,7 +26,6 @@ use Rattle.ff_theory.proofs.Span.{unit-same, unit-other}
 use Rattle.ff_lin.specs.Space.{rows_of, AreVectors}
 use Rattle.ff_table.specs.Coords.{at}
 use Rattle.ff_table.specs.Table.{Table}
-use Rattle.ff_table.specs.Leading.{part}
 use Rattle.ff_table.specs.Level.{z_multiple}
 use Rattle.ff_table.specs.Powers.{is_reached}
 use Rattle.ff_table.specs.Reduce.{IsClear}
@@ -42,15 +41,15 @@ use Rattle.ff_data.specs.declared.system.System.{System}
 use Rattle.ff_data.specs.Systems.{AreCoords, IsWithinWeight, term_weight, weight_at}
 use Rattle.ff_ring.specs.Entries.{entry_at}
 use Rattle.ff_ring.specs.Ring.{table_in, ring_in, element_in}
-use Rattle.ff_ring.proofs.EntryLemmas.{entry-read}
 use Rattle.ff_ring.proofs.RingElements.{element-at}
 use Rattle.ff_poly.proofs.RowLists.{row-value}
 use Rattle.ff_relation.specs.declared.bases.PowerBasis.{PowerBasis}
 use Rattle.ff_relation.specs.Reduction.{IsPowerBasis, AreRows}
-use Rattle.ff_relation.specs.InRing.{PowersOf, IsSplit, IsSplitBy, SplitsDown, sum_in, number_at}
+use Rattle.ff_relation.specs.InRing.{PowersOf, IsSplit, sum_in, number_at}
 use Rattle.ff_relation.specs.InRing.{coefficient_in}
 use Rattle.ff_relation.proofs.Annihilated.{power_sum-ext}
-use Rattle.ff_relation.proofs.LevelSteps.{take-power, clear-unreached, clear-no_level, clear-zero_at}
+use Rattle.ff_relation.proofs.LevelSteps.{take-power, clear-unreached, clear-no_level}
+use Rattle.ff_relation.proofs.LevelSteps.{clear-zero_at}
 
 -- numbers of coefficients
 pub sizes-below : (c : List (List ℕ)) (n : ℕ)
@@ -154,7 +153,8 @@ module _ (F : Elements ℕ) where
   pub rows-form-push : (rows new : List (Vec ℕ)) (v : Vec ℕ) (i j n : ℕ) → new ≡ rows ++ v ∷ []
       → j ≡ i + 1 → AreRows F i n rows → IsVector F n v.items → AreRows F j n new
   rows-form-push rows new v i j n e f h k = record {
-    each = subst (AreVectors F n) (sym e) (All-push (λ (v : Vec ℕ). IsVector F n v.items) rows v h.each k);
+    each = subst (AreVectors F n) (sym e)
+        (All-push (λ (v : Vec ℕ). IsVector F n v.items) rows v h.each k);
     count = omega (arith, ap length e, length-append rows (v ∷ []), h.count, f);
   }
 
@@ -214,10 +214,12 @@ module _ (F : Elements ℕ) where
   rows-one laws rows j v m l h i = rows-entry (set rows j v) i
       ∙ go (cases_lt i j) (cases_lt j i)
     where
-      other : ¬ (i ≡ j) → coeff (polys_over F) (map (λ (v : Vec ℕ). poly_of F v.items) (set rows j v)) i
+      other : ¬ (i ≡ j)
+          → coeff (polys_over F) (map (λ (v : Vec ℕ). poly_of F v.items) (set rows j v)) i
           ≡ (polys_over F).add (entry_at F (rows_of rows) i)
           ((polys_over F).mul m (unit_at (polys_over F) j i))
-      other n = set-other (polys_over F) (λ (v : Vec ℕ). poly_of F v.items) rows j i v n ∙ sym (rows-entry rows i)
+      other n = set-other (polys_over F) (λ (v : Vec ℕ). poly_of F v.items) rows j i v n
+          ∙ sym (rows-entry rows i)
           ∙ ring2 (polys_over F) laws (λ a b. a) (λ a b. a ⊕ b ⊗ nil) refl
           (entry_at F (rows_of rows) i) m
           ∙ ap (λ t. (polys_over F).add (entry_at F (rows_of rows) i) ((polys_over F).mul m t))
@@ -284,7 +286,8 @@ module _ (F : Elements ℕ) (L : Lawful F) (s : System) where
       (z_multiple F.ring (table_in F s) (monomial F.ring (F.value x) n) (element_in F s g)))
   less-multiple r0 r1 g x y n f h = coords_ext P e _ _ (λ l q. element-at F L s r1 l q ∙ h l q
       ∙ ap₂ P.add (sym (element-at F L s r0 l q))
-      (ap₂ P.mul (ap (λ v. monomial F.ring v n) f ∙ monomial-neg F.ring L.laws L.tests (F.value x) n)
+      (ap₂ P.mul (ap (λ v. monomial F.ring v n) f
+      ∙ monomial-neg F.ring L.laws L.tests (F.value x) n)
       (sym (element-at F L s g l q))
       ∙ ring2 P PL (λ a b. neg a ⊗ b) (λ a b. neg (a ⊗ b)) refl (monomial F.ring (F.value x) n)
       (at P e (element_in F s g) l)

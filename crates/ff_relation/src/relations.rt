@@ -4,11 +4,14 @@ ghost use Rattle.ff_theory.specs.Values.{ArePolys, IsPoly, polys_over};
 ghost use Rattle.ff_table.specs.Powers.{IsRelation};
 ghost use Rattle.ff_data.specs.Systems.{AreCoords, AreOverMonic, weight_at};
 ghost use Rattle.ff_ring.specs.Entries.{entry_at};
-ghost use Rattle.ff_ring.specs.Ring.{HasTable, MeetsRule, AreCoordsList, table_in, element_in};
+ghost use Rattle.ff_ring.specs.Ring.{HasTable, MeetsRule, AreCoordsList};
+ghost use Rattle.ff_ring.specs.Ring.{table_in, ring_in, element_in};
 ghost use Rattle.ff_forms.specs.Forms.{HasRelationForm};
 ghost use Rattle.ff_relation.specs.Combination.{IsDifference};
 ghost use Rattle.ff_relation.specs.Reduction.{IsPowerBasis, IsMonic};
-ghost use Rattle.ff_relation.specs.InRing.{PowersOf, IsRelationOf, basis_in};
+ghost use Rattle.ff_relation.specs.InRing.{PowersOf, IsRelationOf, basis_in, multiple_in};
+ghost use Rattle.ff_relation.specs.InRing.{difference_in, IsClearFrom, IsSumOf, IsWritten};
+ghost use Rattle.ff_relation.specs.InRing.{AreWritten, WritesBasis};
 ghost use Rattle.std.specs.List.{All};
 
 use crate::annihilator::{annihilator, one};
@@ -31,7 +34,10 @@ fn basis_multiple<K: FiniteField<E = u32>>(
     i: usize,
 ) -> Result<Vec<Poly>, NoMemory>
     requires q { IsPoly (K.elements k.now) q.now }
-    ensures { IfOk result (λ r. AreCoords (K.elements k.now) s.now r.items) }
+    ensures form { IfOk result (λ r. AreCoords (K.elements k.now) s.now r.items) }
+    ensures exact { let F = K.elements k.now in length s.now.weights ≡ s.now.e →
+        IfOk result (λ r. element_in F s.now r.items ≡
+        multiple_in F s.now q.now (basis_in F s.now i)) }
 {
     let unit = basis_vector(alloc, k, s.e as usize, i)?;
     ring_scale(alloc, k, q, &unit)
@@ -50,7 +56,17 @@ fn larger<K: FiniteField<E = u32>>(
     requires p { IsPowerBasis (K.elements k.now) s.now p.now }
     requires q { IsMonic (K.elements k.now) q.now }
     requires rest { AreCoords (K.elements k.now) s.now rest }
-    ensures { IfOk result (IsMonic (K.elements k.now)) }
+    ensures form { IfOk result (IsMonic (K.elements k.now)) }
+    ensures kept { let F = K.elements k.now in (w : (ring_in F s.now).carrier)
+        (b : PowersOf F s.now w p.now) (a : (ring_in F s.now).carrier) →
+        IsSumOf F s.now b (multiple_in F s.now q.now a) →
+        IfOk result (λ r. IsSumOf F s.now b (multiple_in F s.now r a)) }
+    ensures exact { let F = K.elements k.now in (w : (ring_in F s.now).carrier)
+        (b : PowersOf F s.now w p.now) (a : (ring_in F s.now).carrier) →
+        IsClearFrom F s.now b 0 (element_in F s.now rest) →
+        IsSumOf F s.now b (difference_in F s.now (multiple_in F s.now q.now a)
+        (element_in F s.now rest)) →
+        IfOk result (λ r. IsSumOf F s.now b (multiple_in F s.now r a)) }
 {
     let factor = annihilator(alloc, k, s, p, rest)?;
     let product = factor.mul(alloc, k, q)?;
@@ -69,7 +85,14 @@ fn denominator_for<K: FiniteField<E = u32>>(
     requires table { HasTable (K.elements k.now) s.now }
     requires p { IsPowerBasis (K.elements k.now) s.now p.now }
     requires q { IsMonic (K.elements k.now) q }
-    ensures { IfOk result (IsMonic (K.elements k.now)) }
+    ensures form { IfOk result (IsMonic (K.elements k.now)) }
+    ensures kept { let F = K.elements k.now in (w : (ring_in F s.now).carrier)
+        (b : PowersOf F s.now w p.now) (a : (ring_in F s.now).carrier) →
+        IsSumOf F s.now b (multiple_in F s.now q a) →
+        IfOk result (λ r. IsSumOf F s.now b (multiple_in F s.now r a)) }
+    ensures exact { let F = K.elements k.now in (w : (ring_in F s.now).carrier)
+        (b : PowersOf F s.now w p.now) →
+        IfOk result (λ r. IsSumOf F s.now b (multiple_in F s.now r (basis_in F s.now i))) }
 {
     let product = basis_multiple(alloc, k, s, &q, i)?;
     let reduced = reduce(alloc, k, s, p, &product)?;
@@ -88,7 +111,10 @@ fn denominator<K: FiniteField<E = u32>>(
 ) -> Result<Poly, NoMemory>
     requires table { HasTable (K.elements k.now) s.now }
     requires p { IsPowerBasis (K.elements k.now) s.now p.now }
-    ensures { IfOk result (IsMonic (K.elements k.now)) }
+    ensures form { IfOk result (IsMonic (K.elements k.now)) }
+    ensures exact { let F = K.elements k.now in (w : (ring_in F s.now).carrier)
+        (b : PowersOf F s.now w p.now) → IfOk result (λ r. (i : ℕ) → i < s.now.e →
+        IsSumOf F s.now b (multiple_in F s.now r (basis_in F s.now i))) }
 {
     let mut q = one(alloc, k)?;
     for i in 0..s.e as usize {
@@ -109,7 +135,11 @@ fn written<K: FiniteField<E = u32>>(
     requires table { HasTable (K.elements k.now) s.now }
     requires p { IsPowerBasis (K.elements k.now) s.now p.now }
     requires q { IsMonic (K.elements k.now) q.now }
-    ensures { IfOk result (AreOverMonic (K.elements k.now) s.now) }
+    ensures form { IfOk result (AreOverMonic (K.elements k.now) s.now) }
+    ensures exact { let F = K.elements k.now in (w : (ring_in F s.now).carrier)
+        (b : PowersOf F s.now w p.now) →
+        IsSumOf F s.now b (multiple_in F s.now q.now (basis_in F s.now i)) →
+        IfOk result (IsWritten F s.now w i) }
 {
     let product = basis_multiple(alloc, k, s, q, i)?;
     let reduced = reduce(alloc, k, s, p, &product)?;
@@ -132,6 +162,10 @@ fn back<K: FiniteField<E = u32>>(
     requires q { IsMonic (K.elements k.now) q.now }
     ensures each { IfOk result (All (AreOverMonic (K.elements k.now) s.now)) }
     ensures count { IfOk result (λ r. length r ≡ s.now.e) }
+    ensures exact { let F = K.elements k.now in (w : (ring_in F s.now).carrier)
+        (b : PowersOf F s.now w p.now) → ((i : ℕ) → i < s.now.e →
+        IsSumOf F s.now b (multiple_in F s.now q.now (basis_in F s.now i))) →
+        IfOk result (AreWritten F s.now w) }
 {
     let mut items = Vec::with_capacity(alloc, s.e as usize)?;
     for i in 0..s.e as usize {
@@ -194,6 +228,8 @@ fn relation_of<K: FiniteField<E = u32>>(
     ensures form { IfOk result (HasRelationForm (K.elements k.now) s.now) }
     ensures exact { let F = K.elements k.now in
         PowersOf F s.now (element_in F s.now w) p.now → IfOk result (IsRelationOf F s.now) }
+    ensures back { let F = K.elements k.now in
+        PowersOf F s.now (element_in F s.now w) p.now → IfOk result (WritesBasis F s.now) }
 {
     let coeffs = coefficients(alloc, k, s, p, w.rows())?;
     let q = denominator(alloc, k, s, p)?;
@@ -236,6 +272,8 @@ pub fn relation<K: FiniteField<E = u32>>(
     ensures form { IfOk result (HasRelationForm (K.elements alg.now.k) s.now) }
     ensures exact { let F = K.elements alg.now.k in MeetsRule F s.now →
         IfOk result (IsRelationOf F s.now) }
+    ensures back { let F = K.elements alg.now.k in MeetsRule F s.now →
+        IfOk result (WritesBasis F s.now) }
 {
     let i = choice(s);
     let w = basis_element(alloc, &alg.k, s, i)?;

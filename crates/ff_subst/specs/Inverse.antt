@@ -45,12 +45,15 @@ module _ {K : Elements ℕ} (L : Lawful K) where
   IsQuotientAt g s X Y v = (algebra_in L g).mul v (polynomial_at g X s.den)
       ≡ plane_at_pair (lawful_field L) (plane_of K g) X Y (plane_of K s.num)
 
+  -- the numerator of s at the pair
+  abbrev pub numerator_at : (g : List (List ℕ)) → Elem → Pair → (algebra_in L g).carrier
+  numerator_at g s pair = plane_at_pair (lawful_field L) (plane_of K g) (elem_of L g pair.x)
+      (elem_of L g pair.y) (plane_of K s.num)
+
   -- the numerator of s at the pair is v times d
   abbrev pub IsProductAt : (g : List (List ℕ)) → Elem → Pair → (v d : (algebra_in L g).carrier)
       → Type 0
-  IsProductAt g s pair v d = (algebra_in L g).mul v d
-      ≡ plane_at_pair (lawful_field L) (plane_of K g) (elem_of L g pair.x) (elem_of L g pair.y)
-      (plane_of K s.num)
+  IsProductAt g s pair v d = (algebra_in L g).mul v d ≡ numerator_at g s pair
 
   -- the pair of E(g) satisfies f, and `back` gives x and y at it
   pub record IsOneSided (f g : List (List ℕ)) (pair back : Pair) : Type 0 where

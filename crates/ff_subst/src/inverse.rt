@@ -7,13 +7,13 @@ ghost use Rattle.ff_data.specs.Pairs.{IsPair, Satisfies, HasValue, ValueIs, IsIn
 ghost use Rattle.ff_theory.specs.Values.{ArePolys};
 ghost use Rattle.ff_subst.specs.Congruence.{IsModulus};
 
-use crate::blocks::{element_count, power_list, value_of_poly};
+use crate::blocks::{element_count, power_list};
 use crate::modulus::{modulus, seed_of};
 use crate::tests::{may_invert, may_satisfy_modulo};
-use crate::values::{inverts, is_zero, value_of_rows};
+use crate::values::{inverts, is_zero, value_at};
 use ff_alg::{FiniteField, NoMemory, Steps};
 use ff_data::Pair;
-use ff_elem::{Alg, Elem, InvFault};
+use ff_elem::{Alg, Elem};
 use ff_poly::{Plane, Poly};
 use std::alloc::Global;
 use std::sync::ledger::Ledger;
@@ -40,16 +40,7 @@ pub fn substitute<K: FiniteField<E = u32>>(
         IfOk result (λ v. IfNone v (¬ HasValue L g s.now pair.now)) }
 {
     let at = power_list(alloc, alg2, &pair.x, element_count(s))?;
-    let den = value_of_poly(alloc, alg2, &at, &s.den)?;
-    match alg2.inverse(alloc, &den) {
-        Ok(inverse) => {
-            let num = value_of_rows(alloc, alg2, &at, pair, s.num.rows())?;
-            let value = alg2.mul(alloc, &num, &inverse)?;
-            Ok(Some(value))
-        }
-        Err(InvFault::ZeroDivisor { u: _ }) => Ok(None),
-        Err(InvFault::NoMemory) => Err(NoMemory),
-    }
+    value_at(alloc, alg2, &at, s, pair)
 }
 
 // Whether a pair may satisfy f, by a test modulo a polynomial in x.

@@ -134,16 +134,16 @@ fn more_multiples<K: FiniteField<E = u32>>(
     alg: &Alg<K>,
     m: &Poly,
     by: &ResidueList,
-    at: Multiples,
+    at: &Multiples,
 ) -> Result<Multiples, NoMemory>
     requires m { IsModulus (K.elements alg.now.k) m.now }
     requires by { AreReduced (K.elements alg.now.k) by.now }
-    requires at { AreReducedMultiples (K.elements alg.now.k) at }
+    requires at { AreReducedMultiples (K.elements alg.now.k) at.now }
     ensures reduced { IfOk result (AreReducedMultiples (K.elements alg.now.k)) }
-    ensures count { IfOk result (λ r. length r.list.planes ≡ length at.list.planes + 1) }
+    ensures count { IfOk result (λ r. length r.list.planes ≡ length at.now.list.planes + 1) }
     ensures multiples { let L = K.lawful alg.now.k in let f = alg.now.f in
         IfOk result (λ r. (u v : (algebra_in L f).carrier) → IsMatrix L f m.now v by.now →
-        AreNextMultiples L f m.now u v at → AreNextMultiples L f m.now u v r) }
+        AreNextMultiples L f m.now u v at.now → AreNextMultiples L f m.now u v r) }
 {
     let list = append(alloc, alg, m, &at.list, &at.next)?;
     let next = apply(alloc, alg, m, by, &at.next)?;
@@ -172,7 +172,7 @@ fn powers<K: FiniteField<E = u32>>(
 {
     let mut at = first_multiple(alloc, alg, first)?;
     for _i in 0..count {
-        at = more_multiples(alloc, alg, m, by, at)?;
+        at = more_multiples(alloc, alg, m, by, &at)?;
     }
     Ok(at.list)
 }
@@ -230,16 +230,16 @@ fn more_powers<K: FiniteField<E = u32>>(
     alg: &Alg<K>,
     m: &Poly,
     e: &Elem,
-    at: PowerResidues,
+    at: &PowerResidues,
 ) -> Result<PowerResidues, NoMemory>
     requires m { IsModulus (K.elements alg.now.k) m.now }
     requires e { IsElem (K.lawful alg.now.k) alg.now.f e.now }
-    requires at { IsPowerResidues (K.lawful alg.now.k) alg.now.f at }
+    requires at { IsPowerResidues (K.lawful alg.now.k) alg.now.f at.now }
     ensures reduced { let L = K.lawful alg.now.k in IfOk result (IsPowerResidues L alg.now.f) }
-    ensures count { IfOk result (λ r. length r.list.planes ≡ length at.list.planes + 1) }
+    ensures count { IfOk result (λ r. length r.list.planes ≡ length at.now.list.planes + 1) }
     ensures powers { let L = K.lawful alg.now.k in let f = alg.now.f in
         let u = elem_of L f e.now in IfOk result (λ r.
-        ArePowerResidues L f m.now u at → ArePowerResidues L f m.now u r) }
+        ArePowerResidues L f m.now u at.now → ArePowerResidues L f m.now u r) }
 {
     let list = append_element(alloc, alg, m, &at.list, &at.next)?;
     let next = alg.mul(alloc, e, &at.next)?;
@@ -263,7 +263,7 @@ fn powers_of<K: FiniteField<E = u32>>(
 {
     let mut at = first_power(alloc, alg, e)?;
     for _i in 0..count {
-        at = more_powers(alloc, alg, m, e, at)?;
+        at = more_powers(alloc, alg, m, e, &at)?;
     }
     Ok(at.list)
 }

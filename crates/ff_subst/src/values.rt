@@ -1,14 +1,14 @@
 // Values at a pair, exactly.
-ghost use Rattle.std.specs.Prelude.{◌≡◌, ◌+◌, ◌↔◌, length, IfOk, IsTrue, [], ◌∷◌};
+ghost use Rattle.std.specs.Prelude.{◌≡◌, ◌+◌, ◌↔◌, length, IfOk, IfSome, IfNone, IsTrue, [], ◌∷◌};
 ghost use Rattle.ff_theory.specs.Ring.{IsElement};
 ghost use Rattle.ff_theory.specs.Lawful.{lawful_field};
 ghost use Rattle.ff_theory.specs.Values.{poly_of, IsPoly, plane_of, IsPlane};
 ghost use Rattle.ff_elem.specs.Elem.{algebra_in, elem_of, x_in, y_in, IsElem, ElemIs};
-ghost use Rattle.ff_data.specs.Pairs.{IsPair, Satisfies, ValueIs, Undoes};
+ghost use Rattle.ff_data.specs.Pairs.{IsPair, Satisfies, HasValue, ValueIs, Undoes};
 ghost use Rattle.ff_data.specs.Substitution.{plane_at_pair};
 ghost use Rattle.ff_theory.specs.Values.{ArePolys};
 ghost use Rattle.ff_subst.specs.Inverse.{HasInverse, IsProductAt, ArePartsPolys, ArePairPolys};
-ghost use Rattle.ff_subst.specs.Inverse.{IsOneSided, polynomial_at};
+ghost use Rattle.ff_subst.specs.Inverse.{IsOneSided, polynomial_at, numerator_at};
 ghost use Rattle.ff_subst.specs.Cleared.{ArePowers};
 
 use crate::blocks::{PowerList, pair_count, plane_count, power_list, value_of_poly};
@@ -88,6 +88,105 @@ pub fn value_of_rows<K: FiniteField<E = u32>>(
         value = next_row(alloc, alg, at, pair, &value, &rows[j])?;
     }
     Ok(value)
+}
+
+// The inverse of an element, or none where it has none.
+fn inverse_of<K: FiniteField<E = u32>>(
+    alloc: Global,
+    alg: &Alg<K>,
+    a: &Elem,
+) -> Result<Option<Elem>, NoMemory>
+    requires { IsElem (K.lawful alg.now.k) alg.now.f a.now }
+    ensures element { let L = K.lawful alg.now.k in
+        IfOk result (λ v. IfSome v (IsElem L alg.now.f)) }
+    ensures inverse { let L = K.lawful alg.now.k in let f = alg.now.f in let A = algebra_in L f in
+        IfOk result (λ v. IfSome v (λ r. A.mul (elem_of L f r) (elem_of L f a.now) ≡ A.one)) }
+    ensures none { let L = K.lawful alg.now.k in let f = alg.now.f in
+        IfOk result (λ v. IfNone v (¬ HasInverse L f (elem_of L f a.now))) }
+{
+    match alg.inverse(alloc, a) {
+        Ok(inverse) => Ok(Some(inverse)),
+        Err(InvFault::ZeroDivisor { u: _ }) => Ok(None),
+        Err(InvFault::NoMemory) => Err(NoMemory),
+    }
+}
+
+// The numerator of s at the pair, times an element.
+fn value_over<K: FiniteField<E = u32>>(
+    alloc: Global,
+    alg: &Alg<K>,
+    at: &PowerList,
+    s: &Elem,
+    pair: &Pair,
+    inverse: &Elem,
+) -> Result<Elem, NoMemory>
+    requires at { let L = K.lawful alg.now.k in let f = alg.now.f in
+        ArePowers L f (elem_of L f pair.now.x) at.now }
+    requires pair { IsPair (K.lawful alg.now.k) alg.now.f pair.now }
+    requires num { ArePolys (K.elements alg.now.k) s.now.num }
+    requires inverse { IsElem (K.lawful alg.now.k) alg.now.f inverse.now }
+    ensures element { let L = K.lawful alg.now.k in IfOk result (IsElem L alg.now.f) }
+    ensures value { let L = K.lawful alg.now.k in let f = alg.now.f in let A = algebra_in L f in
+        IfOk result (λ r. elem_of L f r ≡
+        A.mul (numerator_at L f s.now pair.now) (elem_of L f inverse.now)) }
+{
+    let num = value_of_rows(alloc, alg, at, pair, s.num.rows())?;
+    alg.mul(alloc, &num, inverse)
+}
+
+// The value s(X, Y), or none where s has none, where the denominator of s at X is `den`.
+fn quotient<K: FiniteField<E = u32>>(
+    alloc: Global,
+    alg: &Alg<K>,
+    at: &PowerList,
+    s: &Elem,
+    pair: &Pair,
+    den: &Elem,
+) -> Result<Option<Elem>, NoMemory>
+    requires at { let L = K.lawful alg.now.k in let f = alg.now.f in
+        ArePowers L f (elem_of L f pair.now.x) at.now }
+    requires pair { IsPair (K.lawful alg.now.k) alg.now.f pair.now }
+    requires num { ArePolys (K.elements alg.now.k) s.now.num }
+    requires den { let L = K.lawful alg.now.k in let f = alg.now.f in
+        ElemIs L f (polynomial_at L f (elem_of L f pair.now.x) s.now.den) den.now }
+    ensures element { let L = K.lawful alg.now.k in
+        IfOk result (λ v. IfSome v (IsElem L alg.now.f)) }
+    ensures value { let L = K.lawful alg.now.k in let f = alg.now.f in
+        IfOk result (λ v. IfSome v (λ r. ValueIs L f s.now pair.now (elem_of L f r))) }
+    ensures none { let L = K.lawful alg.now.k in let f = alg.now.f in
+        IfOk result (λ v. IfNone v (¬ HasValue L f s.now pair.now)) }
+{
+    match inverse_of(alloc, alg, den)? {
+        Some(inverse) => {
+            let value = value_over(alloc, alg, at, s, pair, &inverse)?;
+            Ok(Some(value))
+        }
+        None => Ok(None),
+    }
+}
+
+// The value s(X, Y), or none where s has none.
+pub fn value_at<K: FiniteField<E = u32>>(
+    alloc: Global,
+    alg: &Alg<K>,
+    at: &PowerList,
+    s: &Elem,
+    pair: &Pair,
+) -> Result<Option<Elem>, NoMemory>
+    requires at { let L = K.lawful alg.now.k in let f = alg.now.f in
+        ArePowers L f (elem_of L f pair.now.x) at.now }
+    requires pair { IsPair (K.lawful alg.now.k) alg.now.f pair.now }
+    requires den { IsPoly (K.elements alg.now.k) s.now.den }
+    requires num { ArePolys (K.elements alg.now.k) s.now.num }
+    ensures element { let L = K.lawful alg.now.k in
+        IfOk result (λ v. IfSome v (IsElem L alg.now.f)) }
+    ensures value { let L = K.lawful alg.now.k in let f = alg.now.f in
+        IfOk result (λ v. IfSome v (λ r. ValueIs L f s.now pair.now (elem_of L f r))) }
+    ensures none { let L = K.lawful alg.now.k in let f = alg.now.f in
+        IfOk result (λ v. IfNone v (¬ HasValue L f s.now pair.now)) }
+{
+    let den = value_of_poly(alloc, alg, at, &s.den)?;
+    quotient(alloc, alg, at, s, pair, &den)
 }
 
 // Whether an element has an inverse.

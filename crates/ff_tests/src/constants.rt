@@ -17,7 +17,7 @@ use std::alloc::Global;
 use std::test::Fail;
 
 /// The maximal order of a chart.
-fn order(alloc: Global, a: &Alg<Prime>, chart: Chart) -> Result<Order, Fail>
+pub(crate) fn order(alloc: Global, a: &Alg<Prime>, chart: Chart) -> Result<Order, Fail>
     ensures chart { IfOk result (λ o. o.chart ≡ chart) }
     ensures exact { let L = ⟦<Prime as Ring>⟧.lawful a.now.k in
         IfOk result (IsMaximal L a.now.f) }

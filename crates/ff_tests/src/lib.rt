@@ -10,6 +10,8 @@ mod make;
 mod order;
 pub mod pairs;
 #[cfg(test)]
+mod points;
+#[cfg(test)]
 mod sep;
 #[cfg(test)]
 mod subst;
@@ -17,3 +19,5 @@ mod subst;
 mod text;
 #[cfg(test)]
 mod top;
+#[cfg(test)]
+mod values;

@@ -4,7 +4,7 @@ ghost use Rattle.ff_text.specs.Values.{HasEquations};
 
 use ff_alg::Steps;
 use ff_data::{IsoList, Refusal, System};
-use ff_list::{isos, kept};
+use ff_list::{KeptParts, isos, kept};
 use ff_text::{Job, MAX_BYTES, Mode, read_input};
 use std::alloc::Global;
 use std::marker::Brand;
@@ -13,7 +13,7 @@ use std::test::Fail;
 
 /// What an answer is: a list of a length, or a refusal, where the genus is small with the number of
 /// gaps.
-#[derive(Clone, Copy, PartialEq, Eq, Debug)]
+#[derive(Clone, Copy, PartialEq, Eq)]
 enum Outcome {
     List(usize),
     Kept,
@@ -57,6 +57,27 @@ fn outcome_of_answer(answer: &Result<IsoList, Refusal>) -> Outcome {
     }
 }
 
+/// The outcome that the parts or their refusal are.
+fn outcome_of_parts(answer: &Result<KeptParts, Refusal>) -> Outcome {
+    match answer {
+        Ok(_) => Outcome::Kept,
+        Err(refusal) => outcome_of(refusal),
+    }
+}
+
+/// Whether a system has as many functions as there are weights, and these weights.
+fn is_of(system: &System, weights: &[u32]) -> bool {
+    system.e as usize == weights.len() && &system.weights.items[..] == weights
+}
+
+/// Whether there are parts, whose system has the weights, one for each class.
+fn have_weights(answer: &Result<KeptParts, Refusal>, weights: &[u32]) -> bool {
+    match answer {
+        Ok(parts) => is_of(&parts.system, weights),
+        Err(_) => false,
+    }
+}
+
 /// The job of a text.
 fn job(alloc: Global, text: &[u8], mode: Mode) -> Result<Job, Fail>
     ensures { IfOk result HasEquations }
@@ -68,7 +89,7 @@ fn job(alloc: Global, text: &[u8], mode: Mode) -> Result<Job, Fail>
     Ok(job)
 }
 
-/// The list of the equations of a job, with new counters.
+/// The outcome of the list of the equations of a job, with new counters.
 fn listed<L: Ledger, M: Ledger>(alloc: Global, job: &Job, blank: Blank, other: Blank) -> Outcome
     requires job { HasEquations job.now }
     requires name { blank.name ≡ L.name }
@@ -80,124 +101,109 @@ fn listed<L: Ledger, M: Ledger>(alloc: Global, job: &Job, blank: Blank, other: B
 {
     let mut tests = Steps::<L>::new(blank);
     let mut nodes = Steps::<M>::new(other);
-    outcome_of_answer(&isos(
-        alloc,
-        &job.prime,
-        &job.first,
-        &job.second,
-        &mut tests,
-        &mut nodes,
-    ))
+    let (k, first, second) = (&job.prime, &job.first, &job.second);
+    let answer = isos(alloc, k, first, second, &mut tests, &mut nodes);
+    let outcome = outcome_of_answer(&answer);
+    drop(answer);
+    outcome
 }
 
-/// The list of a text.
-fn list(alloc: Global, text: &[u8], mode: Mode) -> Result<Outcome, Fail> {
+/// Whether the list of a text, or its refusal, is the outcome.
+fn list_is(alloc: Global, text: &[u8], mode: Mode, want: Outcome) -> Result<bool, Fail> {
     let job = job(alloc, text, mode)?;
-    Ok(listed::<Brand, Brand>(alloc, &job, Blank::new(1), Blank::new(1)))
+    let outcome = listed::<Brand, Brand>(alloc, &job, Blank::new(1), Blank::new(1));
+    drop(job);
+    Ok(outcome == want)
 }
 
-/// Whether parts or a refusal come for an equation twice.
-fn kept_of(alloc: Global, text: &[u8]) -> Result<Outcome, Fail> {
+/// What is kept of the equations of a job.
+fn kept_of(alloc: Global, job: &Job) -> Result<KeptParts, Refusal>
+    requires { HasEquations job.now }
+{
+    kept(alloc, &job.prime, &job.first, &job.second)
+}
+
+/// Whether what comes for an equation twice is the outcome.
+fn kept_is(alloc: Global, text: &[u8], want: Outcome) -> Result<bool, Fail> {
     let job = job(alloc, text, Mode::Aut)?;
-    match kept(alloc, &job.prime, &job.first, &job.second) {
-        Ok(_) => Ok(Outcome::Kept),
-        Err(refusal) => Ok(outcome_of(&refusal)),
-    }
+    let answer = kept_of(alloc, &job);
+    let outcome = outcome_of_parts(&answer);
+    drop(answer);
+    drop(job);
+    Ok(outcome == want)
 }
 
 /// Whether the system that is kept of an equation twice has the weights, one for each class.
-fn has_weights(alloc: Global, text: &[u8], weights: &[u32]) -> Result<bool, Fail> {
+fn kept_has(alloc: Global, text: &[u8], weights: &[u32]) -> Result<bool, Fail> {
     let job = job(alloc, text, Mode::Aut)?;
-    match kept(alloc, &job.prime, &job.first, &job.second) {
-        Ok(parts) => Ok(is_of(&parts.system, weights)),
-        Err(_) => Ok(false),
-    }
+    let answer = kept_of(alloc, &job);
+    let has = have_weights(&answer, weights);
+    drop(answer);
+    drop(job);
+    Ok(has)
 }
 
-/// Whether the system has as many functions as there are weights, and these weights.
-fn is_of(system: &System, weights: &[u32]) -> bool {
-    system.e as usize == weights.len() && &system.weights.items[..] == weights
+/// Whether the automorphisms of an equation are so many.
+fn automorphisms_are(alloc: Global, text: &[u8], count: usize) -> Result<bool, Fail> {
+    list_is(alloc, text, Mode::Aut, Outcome::List(count))
 }
 
-/// The automorphisms of an equation.
-fn automorphisms(alloc: Global, text: &[u8]) -> Result<Outcome, Fail> {
-    list(alloc, text, Mode::Aut)
+/// Whether the isomorphisms of two equations are so many.
+fn isomorphisms_are(alloc: Global, text: &[u8], count: usize) -> Result<bool, Fail> {
+    list_is(alloc, text, Mode::Iso, Outcome::List(count))
 }
 
 #[test]
 fn small_genus(rt: HostRuntime) -> Result<(), Fail> {
-    assert_eq!(rt;
-        kept_of(rt.alloc(), b"p 5\nf y^2-x^5+1\n")?,
-        Outcome::SmallGenus(Some(0))
+    assert!(rt;
+        kept_is(
+            rt.alloc(),
+            b"p 5\nf y^2-x^5+1\n",
+            Outcome::SmallGenus(Some(0))
+        )?
     );
-    assert_eq!(rt;
-        kept_of(rt.alloc(), b"p 5\nf y^2-x^3-x-1\n")?,
-        Outcome::SmallGenus(Some(1))
+    assert!(rt;
+        kept_is(
+            rt.alloc(),
+            b"p 5\nf y^2-x^3-x-1\n",
+            Outcome::SmallGenus(Some(1))
+        )?
     );
     Ok(())
 }
 
 #[test]
 fn refusals(rt: HostRuntime) -> Result<(), Fail> {
-    assert_eq!(rt;
-        kept_of(rt.alloc(), b"p 7\nf y^2-x^2\n")?,
-        Outcome::Reducible(1)
-    );
-    assert_eq!(rt;
-        kept_of(rt.alloc(), b"p 2\nf y^2+x^3\n")?,
-        Outcome::Inseparable(1)
-    );
-    assert_eq!(rt;
-        kept_of(rt.alloc(), b"p 3\nf y^2-2*x^6-x^2-2\n")?,
-        Outcome::NoRationalPlace
+    assert!(rt; kept_is(rt.alloc(), b"p 7\nf y^2-x^2\n", Outcome::Reducible(1))?);
+    assert!(rt; kept_is(rt.alloc(), b"p 2\nf y^2+x^3\n", Outcome::Inseparable(1))?);
+    assert!(rt;
+        kept_is(
+            rt.alloc(),
+            b"p 3\nf y^2-2*x^6-x^2-2\n",
+            Outcome::NoRationalPlace
+        )?
     );
     Ok(())
 }
 
 #[test]
-fn kept_of_genus_two(rt: HostRuntime) -> Result<(), Fail> {
-    assert!(rt; has_weights(rt.alloc(), b"p 3\nf y^2-x^5-1\n", &[0, 5])?);
+fn kept_systems(rt: HostRuntime) -> Result<(), Fail> {
+    assert!(rt; kept_has(rt.alloc(), b"p 3\nf y^2-x^5-1\n", &[0, 5])?);
+    assert!(rt; kept_has(rt.alloc(), b"p 2\nf x^3*y+y^3+x\n", &[0, 7, 5])?);
     Ok(())
 }
 
 #[test]
-fn kept_of_genus_three(rt: HostRuntime) -> Result<(), Fail> {
-    assert!(rt; has_weights(rt.alloc(), b"p 2\nf x^3*y+y^3+x\n", &[0, 7, 5])?);
-    Ok(())
-}
-
-#[test]
-fn two_automorphisms(rt: HostRuntime) -> Result<(), Fail> {
-    assert_eq!(rt;
-        automorphisms(rt.alloc(), b"p 2\nf y^2+y-x^5\n")?,
-        Outcome::List(2)
-    );
-    Ok(())
-}
-
-#[test]
-fn automorphisms_that_move_infinite_points(rt: HostRuntime) -> Result<(), Fail> {
-    assert_eq!(rt;
-        automorphisms(rt.alloc(), b"p 3\nf y^3-y-x^4\n")?,
-        Outcome::List(24)
-    );
-    Ok(())
-}
-
-#[test]
-fn automorphisms_of_order_three(rt: HostRuntime) -> Result<(), Fail> {
-    assert_eq!(rt;
-        automorphisms(rt.alloc(), b"p 2\nf x^3*y+y^3+x\n")?,
-        Outcome::List(3)
-    );
+fn automorphisms(rt: HostRuntime) -> Result<(), Fail> {
+    assert!(rt; automorphisms_are(rt.alloc(), b"p 2\nf y^2+y-x^5\n", 2)?);
+    assert!(rt; automorphisms_are(rt.alloc(), b"p 3\nf y^3-y-x^4\n", 24)?);
+    assert!(rt; automorphisms_are(rt.alloc(), b"p 2\nf x^3*y+y^3+x\n", 3)?);
     Ok(())
 }
 
 #[test]
 fn isomorphisms(rt: HostRuntime) -> Result<(), Fail> {
-    let none = list(rt.alloc(), b"p 3\nf y^2-x^5+1\ng y^2-x^5-1\n", Mode::Iso)?;
-    assert_eq!(rt; none, Outcome::List(0));
-    let two = list(rt.alloc(), b"p 3\nf y^2-x^5-1\ng y^2-x^7-x^2\n", Mode::Iso)?;
-    assert_eq!(rt; two, Outcome::List(2));
+    assert!(rt; isomorphisms_are(rt.alloc(), b"p 3\nf y^2-x^5+1\ng y^2-x^5-1\n", 0)?);
+    assert!(rt; isomorphisms_are(rt.alloc(), b"p 3\nf y^2-x^5-1\ng y^2-x^7-x^2\n", 2)?);
     Ok(())
 }

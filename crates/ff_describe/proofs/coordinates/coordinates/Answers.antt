@@ -1,5 +1,5 @@
 use Rattle.std.proofs.Common.{◌≡◌, ℕ, ◌+◌, ◌<◌, ◌≤◌, suc, length, get_or, []}
-use Rattle.std.proofs.Common.{sym, ◌∙◌, ap, subst, arith, All}
+use Rattle.std.proofs.Common.{sym, ◌∙◌, ap, subst, arith}
 use Rattle.std.proofs.lemmas.List.Elements.{All-push}
 use Rattle.ff_theory.specs.Values.{IsPoly, ArePolys}
 use Rattle.ff_theory.specs.Vector.{vector_of}

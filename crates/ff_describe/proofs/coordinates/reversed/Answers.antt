@@ -1,4 +1,4 @@
-use Rattle.std.proofs.Common.{◌≡◌, ◌-◌, ◌<◌, sym, ◌∙◌, ap, arith, subst, All, get_or, length}
+use Rattle.std.proofs.Common.{◌-◌, ◌<◌, sym, ◌∙◌, ap, arith, subst, All, get_or, length}
 use Rattle.std.proofs.lemmas.List.Elements.{All-push}
 use Rattle.ff_theory.specs.Ring.{IsElement}
 use Rattle.ff_theory.specs.Vector.{vector_of}

@@ -1,4 +1,4 @@
-use Rattle.std.proofs.Common.{ap, ◌+◌, ◌-◌, ◌≡◌, ℕ, ◌≤◌, ◌<◌, ◌∙◌, arith, length, List}
+use Rattle.std.proofs.Common.{ap, ◌-◌, ◌≡◌, ℕ, ◌≤◌, ◌<◌, ◌∙◌, arith, length, List}
 use Rattle.ff_theory.proofs.Results.{ok_map, ok_both}
 use Rattle.ff_theory.specs.Values.{IsPoly, poly_of}
 use Rattle.ff_theory.specs.Vector.{vector_of}

@@ -1,4 +1,4 @@
-use Rattle.std.proofs.Common.{◌≡◌, ◌∙◌, List, ℕ, [], length, get_or, sym, subst, arith}
+use Rattle.std.proofs.Common.{◌≡◌, ◌∙◌, List, ℕ, [], get_or, sym, subst, arith}
 use Rattle.ff_theory.specs.Vector.{vector_of, IsVector}
 use Rattle.ff_describe.specs.Readings.{IsWrittenBy}
 use Rattle.ff_describe.proofs.RowLemmas.{basis-row}

@@ -1,7 +1,6 @@
-use Rattle.std.proofs.Common.{◌≡◌, ◌∙◌, ◌<◌, ◌≤◌, ◌-◌, sym, ap, subst, arith, length, get_or, [], ℕ}
-use Rattle.std.proofs.lemmas.List.{length-map}
+use Rattle.std.proofs.Common.{◌≡◌, ◌∙◌, ◌-◌, sym, ap, arith, length, get_or, []}
 use Rattle.ff_theory.specs.Vector.{vector_of, vectors_of, IsVector}
-use Rattle.ff_describe.specs.Readings.{IsLed, AreZero}
+use Rattle.ff_describe.specs.Readings.{AreZero}
 use Rattle.ff_lin.proofs.Compare.{true-is-false}
 use Rattle.ff_describe.proofs.RowLemmas.{led-row, read-row, held-row, held-index, more-below}
 use Rattle.ff_describe.proofs.expression.last_led.Goals as goal

@@ -1,4 +1,4 @@
-use Rattle.std.proofs.Common.{◌≡◌, ℕ, ◌<◌, ◌≤◌, length}
+use Rattle.std.proofs.Common.{ℕ, ◌<◌, ◌≤◌, length}
 use Rattle.ff_theory.specs.Vector.{vectors_of}
 use Rattle.ff_describe.specs.Readings.{AreZero}
 use Rattle.ff_describe.proofs.expression.last_led.Given as goal

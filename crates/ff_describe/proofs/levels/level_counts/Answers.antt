@@ -1,4 +1,4 @@
-use Rattle.std.proofs.Common.{arith, get_or, length, ◌<◌}
+use Rattle.std.proofs.Common.{arith, get_or}
 use Rattle.ff_describe.specs.Levels.{IsCount}
 use Rattle.ff_describe.proofs.RowLemmas.{pushed-at}
 use Rattle.ff_describe.proofs.levels.level_counts.Goals as goal

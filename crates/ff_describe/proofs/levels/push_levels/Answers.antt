@@ -1,4 +1,4 @@
-use Rattle.std.proofs.Common.{◌≡◌, ◌<◌, sym, ◌∙◌, ap, subst, arith, length}
+use Rattle.std.proofs.Common.{◌≡◌, sym, ◌∙◌, ap, subst, arith, length}
 use Rattle.ff_elem.specs.Elem.{IsElem, elem_of}
 use Rattle.ff_describe.specs.Levels.{HasLevels}
 use Rattle.ff_describe.proofs.ElemLemmas.{elem-at, levels-none, levels-more}

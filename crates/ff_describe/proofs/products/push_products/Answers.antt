@@ -1,4 +1,4 @@
-use Rattle.std.proofs.Common.{◌≡◌, ◌+◌, sym, ◌∙◌, ap, ap₂, subst, arith, length}
+use Rattle.std.proofs.Common.{◌≡◌, ◌+◌, sym, ◌∙◌, ap, ap₂, subst, arith}
 use Rattle.ff_elem.specs.Elem.{IsElem, elem_of, algebra_in}
 use Rattle.ff_describe.specs.Levels.{product_of, Extends}
 use Rattle.ff_describe.proofs.ElemLemmas.{elem-at, extends-none, extends-push}

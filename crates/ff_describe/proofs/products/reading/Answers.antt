@@ -1,4 +1,4 @@
-use Rattle.std.proofs.Common.{ℕ, ◌+◌, sym, ap, subst, arith, length, List}
+use Rattle.std.proofs.Common.{◌≡◌, ℕ, ◌+◌, true, false, sym, ◌∙◌, ap, subst, arith, length, List}
 use Rattle.ff_theory.specs.Vector.{vector_of, IsVector}
 use Rattle.ff_describe.specs.Levels.{offset}
 use Rattle.ff_describe.specs.Readings.{IsUnit, AreCut, AreLight}
@@ -42,8 +42,27 @@ are_light-requires g c = record {
   );
 }
 
-pub returns : goal.returns
-returns g c =
+pub returns-then-not-is_unit-clause-none : goal.returns-then-not-is_unit-clause-none
+returns-then-not-is_unit-clause-none g c h =
+    let F = g.K.Ring.elements c.args.k.now in
+    let z : true ≡ false = sym (c.is_unit.ensures.all (subst (λ (v : List ℕ).
+    IsUnit F c.args.n c.args.r (vector_of F v)) (row-same c.args.rows.now c.args.r
+    c.index-rows-r.result c.deref.result.now c.requires.row c.index-rows-r.is
+    c.deref.ensures.value) h.unit)) ∙ c.if-not-is_unit.true in cc
+
+pub returns-then-not-are_light-clause-none : goal.returns-then-not-are_light-clause-none
+returns-then-not-are_light-clause-none g c h =
+    let F = g.K.Ring.elements c.args.k.now in
+    let items = c.in_ok-items.items.items in
+    let z : true ≡ false = sym (c.are_light.ensures.all (subst (AreLight c.args.e
+    c.args.weights.now c.args.bound) (sym c.deref-3.ensures.value) (h.light items
+    (subst (λ (v : List ℕ). AreCut F c.args.counts.now c.args.n (vector_of F v) items)
+    (sym (row-same c.args.rows.now c.args.r c.index-rows-r.result c.deref-2.result.now
+    c.requires.row c.index-rows-r.is c.deref-2.ensures.value)) c.in_ok-items.ensures))))
+    ∙ c.if-not-are_light.true in cc
+
+pub returns-clause-some : goal.returns-clause-some
+returns-clause-some g c =
     let F = g.K.Ring.elements c.args.k.now in
     let counts = c.args.counts.now in
     let rows = c.args.rows.now in
@@ -54,10 +73,10 @@ returns g c =
     record {
       unit = subst (λ (v : List ℕ). IsUnit F c.args.n r (vector_of F v))
           (sym (row-same rows r row c.deref.result.now c.requires.row is c.deref.ensures.value))
-          (c.is_unit.ensures c.if-not-is_unit.false);
+          (c.is_unit.ensures.unit c.if-not-is_unit.false);
       cut = subst (λ (v : List ℕ). AreCut F counts c.args.n (vector_of F v) items)
           (sym (row-same rows r row c.deref-2.result.now c.requires.row is c.deref-2.ensures.value))
           c.in_ok-items.ensures;
       light = subst (AreLight c.args.e c.args.weights.now c.args.bound) c.deref-3.ensures.value
-          (c.are_light.ensures c.if-not-are_light.false);
+          (c.are_light.ensures.light c.if-not-are_light.false);
     }

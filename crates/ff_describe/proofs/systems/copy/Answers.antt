@@ -1,4 +1,4 @@
-use Rattle.std.proofs.Common.{◌≡◌, ◌∙◌, ap}
+use Rattle.std.proofs.Common.{◌∙◌, ap}
 use Rattle.ff_forms.specs.declared.functions.Functions.{Functions}
 use Rattle.ff_describe.proofs.SystemLemmas.{functions-parts}
 use Rattle.ff_describe.proofs.systems.copy.Goals as goal

@@ -1,5 +1,11 @@
-use Rattle.std.proofs.Common.{◌≤◌}
+use Rattle.std.proofs.Common.{◌-◌, ◌<◌, ◌≤◌}
 use Rattle.ff_describe.proofs.systems.express_by_steps.Given as goal
 
-abbrev pub invariant-loop-turn : goal.invariant-loop-turn
-invariant-loop-turn g l = l.degree ≤ l.most
+abbrev pub invariant-loop-degree : goal.invariant-loop-degree
+invariant-loop-degree g l = record {
+  within : l.degree ≤ l.most;
+  positive : l.degree < l.most → 0 < l.degree;
+}
+
+abbrev pub decreases-loop-degree : goal.decreases-loop-degree
+decreases-loop-degree g l = l.most - l.degree

@@ -1,21 +1,17 @@
-use Rattle.std.proofs.Common.{◌≡◌, ◌∙◌, ◌+◌, ◌*◌, ◌<◌, ◌≤◌, ◌^◌, List, ℕ, length, get_or, sym, ap}
-use Rattle.std.proofs.Common.{subst, arith, All, Option, IfSome}
+use Rattle.std.proofs.Common.{◌≡◌, ◌∙◌, ◌+◌, ◌*◌, ◌≤◌, List, ℕ, length, sym, ap}
+use Rattle.std.proofs.Common.{subst, arith, All}
 use Rattle.std.specs.Global.{Vec}
 use Rattle.std.proofs.lemmas.List.{length-map}
-use Rattle.ff_theory.specs.Vector.{vectors_of}
 use Rattle.ff_theory.proofs.Results.{ok_map}
-use Rattle.ff_lin.specs.Space.{rows_of, AreVectors, HasExactly}
-use Rattle.ff_elem.specs.declared.elem.Elem.{Elem}
+use Rattle.ff_lin.specs.Space.{rows_of}
 use Rattle.ff_elem.specs.Elem.{IsElem}
-use Rattle.ff_data.specs.declared.system.System.{System}
-use Rattle.ff_data.specs.Combinations.{AreElems, IsRelationOf}
+use Rattle.ff_data.specs.Combinations.{AreElems}
 use Rattle.ff_forms.specs.declared.functions.Functions.{Functions}
-use Rattle.ff_describe.specs.Levels.{offset, triangle, AreCounts, AreProducts, HasLevels}
-use Rattle.ff_describe.specs.Readings.{IsTriangle}
-use Rattle.ff_describe.specs.Described.{frame_of, IsTriangleOf}
+use Rattle.ff_describe.specs.Levels.{offset, triangle}
 use Rattle.ff_describe.proofs.RowLemmas.{rows-vectors}
-use Rattle.ff_describe.proofs.Options.{some-map}
+use Rattle.ff_describe.proofs.Options.{some-map, none-map}
 use Rattle.ff_describe.proofs.TableLemmas.{triangle-read}
+use Rattle.ff_describe.proofs.ReadRows.{enough-rows, readable-rows}
 use Rattle.ff_describe.proofs.SystemLemmas.{frame-parts}
 use Rattle.ff_describe.proofs.tables.triangle_of.Goals as goal
 
@@ -85,8 +81,74 @@ triangle_rows-requires g c =
       products = n ∙ c.in_ok-list.ensures.len ∙ ap triangle many;
     }
 
-pub returns : goal.returns
-returns g c =
+pub returns-then-rows-n-clause-none : goal.returns-then-rows-n-clause-none
+returns-then-rows-n-clause-none g c h =
+    let K = g.K.Ring.elements c.args.alg.now.k in
+    let L = g.K.Ring.lawful c.args.alg.now.k in
+    let f = c.args.alg.now.f in
+    let p = c.args.functions.now in
+    let s = c.in_ok-relations.relations in
+    let heads = c.in_ok-list.list.items in
+    let e = ap (λ (t : Functions). t.e) c.functions.view_is in
+    let z = ap (λ (t : Functions). t.z) c.functions.view_is in
+    let b = c.as_slice-b.ensures.value ∙ ap (λ (t : Functions). t.b) c.functions.view_is in
+    let w = c.as_slice-weights.ensures.value
+    ∙ ap (λ (t : Functions). t.weights) c.functions.view_is in
+    let n : c.len-n.result ≡ length heads = omega (
+      arith,
+      c.len-n.ensures,
+      c.in_ok-list.list.ok.0,
+    ) in
+    let t : c.len-n.result ≤ length (rows_of c.basis-rows.result.now) = enough-rows
+    K L f p _ c.greatest.result
+    _ c.as_slice-b.result.now c.as_slice-weights.result.now
+    c.in_ok-counts.counts.items c.deref.result.now heads c.in_ok-list-2.list.items
+    c.deref-2.result.now s (rows_of c.basis-rows.result.now) c.len-n.result
+    (frame-parts p _ _ _ _ e z b w) (ap length b ∙ c.requires.count ∙ sym e)
+    (ap length w ∙ c.requires.weights ∙ sym e) c.in_ok-counts.ensures c.in_ok-list.ensures
+    c.deref.ensures.value c.in_ok-list-2.ensures c.deref-2.ensures.value
+    c.in_ok-relations.ensures.space.space c.in_ok-relations.ensures.space.len
+    c.in_ok-relations.ensures.exact c.basis-rows.ensures n c.greatest.ensures.above h in
+    absurd (omega (
+      arith,
+      t,
+      c.if-rows-n.true,
+      length-map c.basis-rows.result.now (λ (v : Vec ℕ). v.items),
+    ))
+
+pub returns-clause-none : goal.returns-clause-none
+returns-clause-none g c =
+    let K = g.K.Ring.elements c.args.alg.now.k in
+    let L = g.K.Ring.lawful c.args.alg.now.k in
+    let f = c.args.alg.now.f in
+    let p = c.args.functions.now in
+    let s = c.in_ok-relations.relations in
+    let heads = c.in_ok-list.list.items in
+    let e = ap (λ (t : Functions). t.e) c.functions.view_is in
+    let z = ap (λ (t : Functions). t.z) c.functions.view_is in
+    let b = c.as_slice-b.ensures.value ∙ ap (λ (t : Functions). t.b) c.functions.view_is in
+    let w = c.as_slice-weights.ensures.value
+    ∙ ap (λ (t : Functions). t.weights) c.functions.view_is in
+    let n : c.len-n.result ≡ length heads = omega (
+      arith,
+      c.len-n.ensures,
+      c.in_ok-list.list.ok.0,
+    ) in
+    ok_map _ _ c.triangle_rows.result (λ o k. none-map o _ _ (λ no h.
+    no (readable-rows K L f p _ c.greatest.result
+    _ c.as_slice-b.result.now c.as_slice-weights.result.now
+    c.in_ok-counts.counts.items c.deref.result.now heads c.in_ok-list-2.list.items
+    c.deref-2.result.now s (rows_of c.basis-rows.result.now) c.len-n.result
+    (frame-parts p _ _ _ _ e z b w) (ap length b ∙ c.requires.count ∙ sym e)
+    (ap length w ∙ c.requires.weights ∙ sym e) c.in_ok-counts.ensures c.in_ok-list.ensures
+    c.deref.ensures.value c.in_ok-list-2.ensures c.deref-2.ensures.value
+    c.in_ok-relations.ensures.space.space c.in_ok-relations.ensures.space.len
+    c.in_ok-relations.ensures.exact c.basis-rows.ensures n c.greatest.ensures.above h
+    c.deref-3.result.now c.deref-3.ensures.value)) k)
+    c.triangle_rows.ensures.none
+
+pub returns-clause-some : goal.returns-clause-some
+returns-clause-some g c =
     let K = g.K.Ring.elements c.args.alg.now.k in
     let L = g.K.Ring.lawful c.args.alg.now.k in
     let f = c.args.alg.now.f in
@@ -117,4 +179,4 @@ returns g c =
     c.in_ok-counts.ensures c.in_ok-list.ensures c.deref.ensures.value c.in_ok-list-2.ensures
     c.deref-2.ensures.value c.in_ok-relations.ensures.exact c.basis-rows.ensures n all
     c.deref-3.ensures.value k) h)
-    c.triangle_rows.ensures
+    c.triangle_rows.ensures.some

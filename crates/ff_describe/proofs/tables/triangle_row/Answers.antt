@@ -1,7 +1,8 @@
-use Rattle.std.proofs.Common.{◌≡◌, ◌+◌, ◌<◌, ◌^◌, ap, subst, arith, length, get_or, IfSome}
+use Rattle.std.proofs.Common.{◌≡◌, ◌+◌, ◌<◌, ◌^◌, sym, ap, subst, arith, length, get_or, IfSome}
+use Rattle.std.proofs.Common.{IfNone}
 use Rattle.ff_theory.specs.Vector.{vectors_of}
 use Rattle.ff_lin.specs.Space.{rows_of}
-use Rattle.ff_describe.specs.Readings.{IsReading, IsTriangleRow}
+use Rattle.ff_describe.specs.Readings.{IsReading, IsReadable, IsTriangleRow}
 use Rattle.ff_describe.proofs.ReadingLemmas.{row-more}
 use Rattle.ff_describe.proofs.tables.triangle_row.Goals as goal
 
@@ -46,10 +47,26 @@ loop-i-preserved g c =
     c.push.new.self.items c.loop-i.invariant
     (subst (λ s. IsReading F e weights counts rows n (s + i) bound c.in-Some.c) c.requires.start
     (subst (λ o. IfSome o (IsReading F e weights counts rows n (c.args.start + i) bound))
-    c.in-Some.is c.in_ok-reading.ensures)) c.in_ok-push-in-Some.ensures.items
+    c.in-Some.is c.in_ok-reading.ensures.some)) c.in_ok-push-in-Some.ensures.items
 
-pub returns : goal.returns
-returns g c =
+pub returns-in-None-clause-none : goal.returns-in-None-clause-none
+returns-in-None-clause-none g c h =
+    let F = g.K.Ring.elements c.args.k.now in
+    let e = c.args.e in
+    let weights = c.args.weights.now in
+    let counts = c.args.counts.now in
+    let rows = vectors_of F (rows_of c.args.rows.now) in
+    let n = c.args.n in
+    let j = c.args.j in
+    let i = c.loop-i.i in
+    let bound = get_or weights i 0 + get_or weights j 0 in
+    subst (λ o. IfNone o (¬ IsReadable F e weights counts rows n (c.args.start + i) bound))
+    c.in-None.is c.in_ok-reading.ensures.none
+    (subst (λ s. IsReadable F e weights counts rows n (s + i) bound) (sym c.requires.start)
+    (h i (omega (arith, c.loop-i-test.true))))
+
+pub returns-clause-some : goal.returns-clause-some
+returns-clause-some g c =
     let F = g.K.Ring.elements c.args.k.now in
     let whole : c.loop-i.i ≡ c.args.j + 1 = omega (
       arith,

@@ -1,8 +1,8 @@
-use Rattle.std.proofs.Common.{◌≡◌, ◌+◌, ◌≤◌, suc, ap, subst, arith, length, IfSome}
+use Rattle.std.proofs.Common.{◌≡◌, ◌+◌, ◌≤◌, suc, ap, subst, arith, length, IfSome, IfNone}
 use Rattle.ff_theory.specs.Vector.{vectors_of}
 use Rattle.ff_lin.specs.Space.{rows_of}
 use Rattle.ff_describe.specs.Levels.{triangle}
-use Rattle.ff_describe.specs.Readings.{IsTriangleRow, IsTriangle}
+use Rattle.ff_describe.specs.Readings.{IsReadableRow, IsTriangleRow, IsTriangle}
 use Rattle.ff_describe.proofs.ElemLemmas.{triangle-next}
 use Rattle.ff_describe.proofs.ReadingLemmas.{rows-more}
 use Rattle.ff_describe.proofs.tables.triangle_rows.Goals as goal
@@ -64,11 +64,19 @@ loop-j-preserved g c =
       rows = rows-more F e weights counts rows n j c.loop-j.lists.items c.in-Some.list
           c.push.new.self.items c.loop-j.invariant.rows
           (subst (λ o. IfSome o (IsTriangleRow F e weights counts rows n j (j + 1))) c.in-Some.is
-          c.in_ok-triangle_row.ensures) c.in_ok-push-in-Some.ensures.items;
+          c.in_ok-triangle_row.ensures.some) c.in_ok-push-in-Some.ensures.items;
     }
 
-pub returns : goal.returns
-returns g c =
+pub returns-in-None-clause-none : goal.returns-in-None-clause-none
+returns-in-None-clause-none g c h =
+    let F = g.K.Ring.elements c.args.k.now in
+    let rows = vectors_of F (rows_of c.args.rows.now) in
+    subst (λ o. IfNone o (¬ IsReadableRow F c.args.e c.args.weights.now c.args.counts.now rows
+    c.args.n c.loop-j.j)) c.in-None.is c.in_ok-triangle_row.ensures.none
+    (h c.loop-j.j (omega (arith, c.loop-j-test.true)))
+
+pub returns-clause-some : goal.returns-clause-some
+returns-clause-some g c =
     let F = g.K.Ring.elements c.args.k.now in
     let weights = c.args.weights.now in
     let whole : c.loop-j.j ≡ length weights = omega (

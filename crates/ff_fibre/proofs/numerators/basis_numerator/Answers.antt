@@ -1,9 +1,6 @@
-use Rattle.std.proofs.Common.{◌≡◌, ◌*◌, ◌-◌, pred, length, sym, ◌∙◌, ap, ap₂, subst, arith}
-use Rattle.ff_theory.specs.Values.{plane_of}
+use Rattle.std.proofs.Common.{◌≡◌, ◌*◌, ◌-◌, pred, length, sym, ap, ap₂, subst, arith}
 use Rattle.ff_theory.specs.Vector.{IsVector, vector_of}
 use Rattle.ff_theory.proofs.Results.{ok_both}
-use Rattle.ff_charts.specs.Lattice.{HasShape, flat}
-use Rattle.ff_data.specs.Orders.{y_degree}
 use Rattle.ff_data.proofs.NumeratorLemmas.{order_length}
 use Rattle.ff_fibre.specs.Fibres.{AreCoefficientsOf}
 use Rattle.ff_fibre.proofs.numerators.basis_numerator.Goals as goal

@@ -1,9 +1,9 @@
-use Rattle.std.proofs.Common.{◌≡◌, ◌*◌, ◌≤◌, length, sym, ◌∙◌, ap, subst, arith}
+use Rattle.std.proofs.Common.{◌*◌, ◌≤◌, length, sym, ◌∙◌, ap, subst, arith}
 use Rattle.ff_theory.specs.Lawful.{lawful_field}
 use Rattle.ff_theory.specs.Division.{size}
 use Rattle.ff_theory.specs.Poly.{polynomials}
 use Rattle.ff_theory.specs.Monomial.{monomial}
-use Rattle.ff_theory.specs.Values.{poly_of, plane_of}
+use Rattle.ff_theory.specs.Values.{poly_of}
 use Rattle.ff_theory.specs.Vector.{IsVector}
 use Rattle.ff_theory.proofs.Results.{ok_map}
 use Rattle.ff_charts.specs.Lattice.{HasShape, flat}

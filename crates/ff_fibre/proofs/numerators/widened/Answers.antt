@@ -1,8 +1,6 @@
-use Rattle.std.proofs.Common.{◌≡◌, ℕ, ◌*◌, ◌-◌, ◌≤◌, pred, length, sym, ◌∙◌, ap, ap₂, subst, arith}
-use Rattle.ff_theory.specs.Division.{size}
-use Rattle.ff_theory.specs.Poly.{coeff, Poly, polynomials}
+use Rattle.std.proofs.Common.{◌≡◌, ◌*◌, ◌-◌, pred, length, sym, ◌∙◌, ap, ap₂, subst, arith}
 use Rattle.ff_theory.specs.Values.{plane_of}
-use Rattle.ff_theory.specs.Vector.{IsVector, vector_of}
+use Rattle.ff_theory.specs.Vector.{IsVector}
 use Rattle.ff_theory.proofs.Results.{ok_map}
 use Rattle.ff_charts.specs.Lattice.{HasShape, flat}
 use Rattle.ff_fibre.proofs.PowerPlanes.{shape_wider}

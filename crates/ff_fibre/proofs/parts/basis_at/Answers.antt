@@ -1,6 +1,4 @@
-use Rattle.std.proofs.Common.{◌≡◌, ℕ, ◌*◌, ◌<◌, pred, [], length, get_or, sym, ◌∙◌, ap, subst, arith}
-use Rattle.std.proofs.lemmas.List.{length-map}
-use Rattle.std.specs.Global.{Vec}
+use Rattle.std.proofs.Common.{◌≡◌, ◌*◌, pred, [], length, get_or, sym, ◌∙◌, ap, subst, arith}
 use Rattle.ff_theory.specs.Vector.{vectors_of}
 use Rattle.ff_lin.specs.Space.{rows_of, AreVectors, IsSpaceOf}
 use Rattle.ff_data.specs.Orders.{y_degree}

@@ -1,8 +1,7 @@
-use Rattle.std.proofs.Common.{◌≡◌, ◌*◌, length, sym, ◌∙◌, ap, subst}
+use Rattle.std.proofs.Common.{sym, subst}
 use Rattle.ff_theory.proofs.Results.{ok_map}
 use Rattle.ff_lin.specs.Space.{rows_of, AreVectors}
 use Rattle.ff_modulo.specs.Modulo.{IsBasisModulo}
-use Rattle.ff_data.specs.Orders.{y_degree}
 use Rattle.ff_fibre.proofs.parts.basis_rows.Goals as goal
 
 pub basis_modulo-requires : goal.basis_modulo-requires

@@ -1,9 +1,7 @@
-use Rattle.std.proofs.Common.{◌≡◌, ◌*◌, ◌-◌, ◌<◌, pred, length, sym, ◌∙◌, ap, subst, arith}
+use Rattle.std.proofs.Common.{◌≡◌, ◌*◌, ◌-◌, pred, length, ◌∙◌, ap, subst, arith}
 use Rattle.ff_theory.specs.Poly.{polynomials}
 use Rattle.ff_theory.specs.Values.{poly_of}
-use Rattle.ff_theory.proofs.Results.{ok_map}
 use Rattle.ff_lin.specs.Space.{IsSpaceOf}
-use Rattle.ff_local.specs.ChartOrder.{root_at}
 use Rattle.ff_common.specs.Common.{IsTimesSpace}
 use Rattle.ff_data.specs.Orders.{y_degree}
 use Rattle.ff_data.proofs.NumeratorLemmas.{order_length}

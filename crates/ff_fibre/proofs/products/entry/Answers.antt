@@ -1,6 +1,5 @@
-use Rattle.std.proofs.Common.{◌≡◌, ℕ, ◌<◌, [], length, get_or, sym, ◌∙◌, ap, subst, arith}
-use Rattle.std.specs.Global.{Vec}
-use Rattle.ff_theory.specs.Vector.{IsVector, vector_of}
+use Rattle.std.proofs.Common.{◌≡◌, ◌<◌, [], length, get_or, sym, ◌∙◌, subst, arith}
+use Rattle.ff_theory.specs.Vector.{vector_of}
 use Rattle.ff_characters.specs.Characters.{tables_of, IsMatrix}
 use Rattle.ff_fibre.specs.Fibres.{IsEntryOf}
 use Rattle.ff_fibre.proofs.RowLists.{table_row}

@@ -1,6 +1,5 @@
-use Rattle.std.proofs.Common.{◌≡◌, ℕ, length, sym, ◌∙◌, ap, subst, arith}
-use Rattle.ff_characters.specs.Characters.{tables_of, IsTable}
-use Rattle.ff_fibre.specs.Fibres.{HasFibreForm, IsFibreAt, AreEntries}
+use Rattle.std.proofs.Common.{sym, subst, arith}
+use Rattle.ff_fibre.specs.Fibres.{HasFibreForm, IsFibreAt}
 use Rattle.ff_fibre.proofs.Equations.{tabled_form, tabled_basis, tabled_entry}
 use Rattle.ff_fibre.proofs.products.fibre_at.Goals as goal
 

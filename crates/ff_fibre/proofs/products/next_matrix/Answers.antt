@@ -1,4 +1,4 @@
-use Rattle.std.proofs.Common.{◌≡◌, ℕ, ◌<◌, length, map, sym, ◌∙◌, ap, subst, arith, All}
+use Rattle.std.proofs.Common.{ℕ, length, map, sym, subst, arith, All}
 use Rattle.std.proofs.lemmas.List.Elements.{All-push}
 use Rattle.std.specs.Global.{Vec}
 use Rattle.ff_theory.specs.Vector.{IsVector, vectors_of}

@@ -1,4 +1,4 @@
-use Rattle.std.proofs.Common.{◌≡◌, suc, ◌<◌, ◌≤◌, length, sym, ◌∙◌, ap, subst, arith}
+use Rattle.std.proofs.Common.{subst, arith}
 use Rattle.ff_theory.specs.Poly.{polynomials}
 use Rattle.ff_theory.specs.Lawful.{lawful_field}
 use Rattle.ff_theory.specs.Planes.{planes}

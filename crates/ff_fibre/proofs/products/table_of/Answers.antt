@@ -1,6 +1,5 @@
-use Rattle.std.proofs.Common.{◌≡◌, ℕ, ◌+◌, ◌<◌, List, length, sym, ◌∙◌, ap, subst, arith, All, refl}
+use Rattle.std.proofs.Common.{◌≡◌, ℕ, ◌+◌, List, length, sym, ap, subst, arith, All, refl}
 use Rattle.std.proofs.lemmas.List.Elements.{All-push}
-use Rattle.std.specs.Global.{Vec}
 use Rattle.ff_lin.specs.Space.{rows_of}
 use Rattle.ff_characters.specs.Characters.{tables_of, IsMatrix}
 use Rattle.ff_fibre.specs.Fibres.{AreRowEntries, AreEntries}

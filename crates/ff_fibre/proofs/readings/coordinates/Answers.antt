@@ -1,4 +1,4 @@
-use Rattle.std.proofs.Common.{◌≡◌, ◌*◌, pred, length, sym, ◌∙◌, ap, subst, arith, IfSome, IfNone}
+use Rattle.std.proofs.Common.{◌≡◌, length, sym, ◌∙◌, ap, subst, arith, IfSome, IfNone}
 use Rattle.ff_theory.specs.Values.{plane_of}
 use Rattle.ff_theory.specs.Vector.{IsVector, vector_of}
 use Rattle.ff_theory.proofs.Results.{ok_map}

@@ -1,8 +1,9 @@
 use Rattle.std.proofs.Common.{◌*◌, ℕ, pred, length, refl, sym, ◌∙◌, ap, subst, Vec, Global}
 use Rattle.ff_theory.specs.Values.{poly_of, IsPoly}
-use Rattle.ff_lin.specs.Space.{IsSpaceOf}
+use Rattle.ff_lin.specs.Space.{IsSpaceOf, SameSpace}
 use Rattle.ff_lin.proofs.InsertRow.{basis_vectors}
 use Rattle.ff_data.specs.Orders.{chart_of, y_degree}
+use Rattle.ff_frac.proofs.NumeratorLemmas.{same_lattice}
 use Rattle.ff_frac.proofs.module.own_module.Goals as goal
 
 pub span-requires : goal.span-requires
@@ -14,8 +15,8 @@ span-requires g c =
           c.len.result refl c.basis.ensures c.len.ensures c.requires.order.space.space;
     }
 
-pub returns : goal.returns
-returns g c =
+pub returns-clause-lattice : goal.returns-clause-lattice
+returns-clause-lattice g c =
     let F = g.K.Ring.elements c.args.alg.now.k in
     let L = g.K.Ring.lawful c.args.alg.now.k in
     let f = c.args.alg.now.f in
@@ -29,3 +30,13 @@ returns g c =
           ∙ ap (λ d. y_degree L f * pred (length d)) (sym c.in_ok-d.ensures))
           c.in_ok-space.ensures.space;
     }
+
+pub returns-clause-same : goal.returns-clause-same
+returns-clause-same g c =
+    let F = g.K.Ring.elements c.args.alg.now.k in
+    let L = g.K.Ring.lawful c.args.alg.now.k in
+    let o = c.args.order.now in
+    let space = c.in_ok-space.space in
+    same_lattice F L c.args.alg.now.f o.chart o.d c.in_ok-d.d o.space.basis space
+    c.in_ok-d.ensures (subst (SameSpace F space.basis) c.basis.ensures
+    c.in_ok-space.ensures.same)

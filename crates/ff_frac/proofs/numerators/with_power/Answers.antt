@@ -1,12 +1,15 @@
 use Rattle.std.proofs.Common.{◌≡◌, ◌≤◌, ◌+◌, ◌*◌, ◌-◌, ℕ, pred, length, sym, ap, subst, arith}
-use Rattle.std.proofs.Common.{All, Vec, Global}
+use Rattle.std.proofs.Common.{All, Vec, Global, ◌∙◌, [], ◌∷◌, ◌++◌}
+use Rattle.std.proofs.lemmas.List.{length-map}
 use Rattle.std.proofs.lemmas.List.Elements.{All-push}
-use Rattle.ff_theory.specs.Values.{plane_of}
+use Rattle.ff_theory.specs.Values.{poly_of, plane_of}
 use Rattle.ff_theory.specs.Vector.{IsVector}
 use Rattle.ff_charts.specs.Lattice.{HasShape}
-use Rattle.ff_lin.specs.Space.{AreVectors}
+use Rattle.ff_lin.specs.Space.{rows_of, AreVectors}
 use Rattle.ff_data.specs.Orders.{y_degree}
 use Rattle.ff_data.proofs.NumeratorLemmas.{order_length}
+use Rattle.ff_frac.specs.Numerators.{IsWithPlane}
+use Rattle.ff_frac.proofs.NumeratorLemmas.{pushed_plane}
 use Rattle.ff_frac.proofs.numerators.with_power.Goals as goal
 
 pub overflow_sub-l : goal.overflow_sub-l
@@ -52,8 +55,8 @@ times_vectors-requires g c =
       vectors = subst (λ l. AreVectors F (n * l) c.args.vectors.now) short c.requires.vectors;
     }
 
-pub returns : goal.returns
-returns g c =
+pub returns-clause-vectors : goal.returns-clause-vectors
+returns-clause-vectors g c =
     let F = g.K.Ring.elements c.args.alg.now.k in
     let L = g.K.Ring.lawful c.args.alg.now.k in
     let n = y_degree L c.args.alg.now.f in
@@ -67,3 +70,29 @@ returns g c =
     (subst (All (λ v. IsVector F (n * m) (items v))) (sym c.in_ok-push.ensures.items)
     (All-push (λ v. IsVector F (n * m) (items v)) c.in_ok-list.list.items c.in_ok-power.power
     c.in_ok-list.ensures.vectors row))
+
+pub returns-clause-value : goal.returns-clause-value
+returns-clause-value g c =
+    let F = g.K.Ring.elements c.args.alg.now.k in
+    let L = g.K.Ring.lawful c.args.alg.now.k in
+    let f = c.args.alg.now.f in
+    let s = c.args.powers.now in
+    let G = poly_of F s.root in
+    let N = plane_of F s.power in
+    let old = rows_of c.args.vectors.now in
+    let h = pred (length s.modulus) in
+    let l = pred (length c.args.order.now.d + c.args.i) in
+    let long : length c.coeffs.result.now - 1 ≡ h = omega (arith, ap length c.coeffs.ensures) in
+    let short : length c.coeffs.result.now - 1 - 1 ≡ l =
+    omega (arith, ap length c.coeffs.ensures, c.requires.powers.size) in
+    let count : length old ≡ length c.args.vectors.now =
+    length-map c.args.vectors.now (λ (r : Vec ℕ Global). r.items) in
+    let list = c.in_ok-list.list.items in
+    subst (λ rows. IsWithPlane L f G l h N old (rows_of rows)) (sym c.in_ok-push.ensures.items)
+    (subst (λ h. IsWithPlane L f G l h N old (rows_of (list ++ c.in_ok-power.power ∷ []))) long
+    (subst (λ l. IsWithPlane L f G l (length c.coeffs.result.now - 1) N old
+    (rows_of (list ++ c.in_ok-power.power ∷ []))) short
+    (pushed_plane F L f G (length c.coeffs.result.now - 1 - 1) (length c.coeffs.result.now - 1) N
+    old list c.in_ok-power.power (c.in_ok-list.ensures.len ∙ sym count)
+    (λ t q. c.in_ok-list.ensures.value t (omega (arith, q, count)))
+    c.in_ok-power.ensures.value)))

@@ -4,6 +4,7 @@ use Rattle.ff_lin.specs.Space.{AreVectors}
 use Rattle.ff_lin.proofs.InsertRow.{basis_vectors}
 use Rattle.ff_data.specs.Orders.{y_degree}
 use Rattle.ff_data.proofs.NumeratorLemmas.{order_length}
+use Rattle.ff_frac.proofs.ShrinkLists.{basis_planes}
 use Rattle.ff_frac.proofs.shrink.planes.Goals as goal
 
 pub overflow_sub-l : goal.overflow_sub-l
@@ -25,3 +26,13 @@ planes_of-requires g c =
     subst (λ l. AreVectors F (y_degree L c.args.alg.now.f * l) c.basis.result.now) e
     (basis_vectors F items c.basis.result.now c.basis.result.now c.args.order.now.space _ refl
     c.basis.ensures (sym space.len) space.space)
+
+pub returns-clause-value : goal.returns-clause-value
+returns-clause-value g c =
+    let F = g.K.Ring.elements c.args.alg.now.k in
+    let L = g.K.Ring.lawful c.args.alg.now.k in
+    let n = y_degree L c.args.alg.now.f in
+    let e : length c.coeffs.result.now - 1 ≡ pred (length c.args.order.now.d) =
+    omega (arith, ap length c.coeffs.ensures) in
+    basis_planes F n _ _ _ _ e c.basis.ensures c.planes_of.result c.planes_of.ensures.len
+    c.planes_of.ensures.value

@@ -1,6 +1,8 @@
 use Rattle.std.proofs.Common.{◌≡◌, ◌*◌, ◌-◌, pred, length, sym, ◌∙◌, ap, ap₂, subst, arith}
-use Rattle.ff_theory.specs.Vector.{IsVector}
-use Rattle.ff_lin.specs.Space.{AreVectors}
+use Rattle.ff_theory.specs.Values.{plane_of}
+use Rattle.ff_theory.specs.Vector.{IsVector, vector_of, combination_of}
+use Rattle.ff_charts.specs.Lattice.{HasShape, flat}
+use Rattle.ff_lin.specs.Space.{rows_of, AreVectors}
 use Rattle.ff_frac.proofs.FractionLemmas.{shape_rows}
 use Rattle.ff_frac.proofs.socle.plane_with.Goals as goal
 
@@ -40,3 +42,22 @@ returns-clause-few g c =
     let few = shape_rows F L c.in_ok-plane.plane c.in_ok-plane.ensures.plane _ _
     c.in_ok-plane.ensures.shape in
     omega (arith, few, ap length c.rows.ensures)
+
+pub returns-clause-value : goal.returns-clause-value
+returns-clause-value g c =
+    let F = g.K.Ring.elements c.args.alg.now.k in
+    let s = c.args.fibre.now in
+    let rows : length c.rows.result.now - 1 ≡ length c.args.alg.now.f - 1 =
+    ap (λ x. length x - 1) c.rows.ensures in
+    let l : length c.coeffs.result.now - 1 ≡ pred (length s.modulus) =
+    omega (arith, ap length c.coeffs.ensures) in
+    let N = plane_of F c.in_ok-plane.plane in
+    record {
+      shape = subst (λ n. HasShape F.ring n (pred (length s.modulus)) N) rows
+          (subst (λ l. HasShape F.ring (length c.rows.result.now - 1) l N) l
+          c.in_ok-plane.ensures.shape);
+      value = λ j. ap (λ l. flat F.ring l N j) (sym l) ∙ c.in_ok-plane.ensures.value j
+          ∙ ap (λ v. vector_of F v j) c.deref-2.ensures.value ∙ c.in_ok-v.ensures.value j
+          ∙ ap (λ rows. combination_of F (rows_of rows) (vector_of F c.args.c.now) j)
+          c.deref.ensures.value;
+    }

@@ -2,11 +2,12 @@ use Rattle.std.proofs.Common.{◌≡◌, ◌*◌, ◌-◌, pred, length, refl, s
 use Rattle.std.proofs.Common.{ℕ, arith, Vec, Global}
 use Rattle.std.proofs.lemmas.List.{length-map}
 use Rattle.ff_theory.specs.Values.{plane_of}
-use Rattle.ff_theory.specs.Vector.{IsVector}
+use Rattle.ff_theory.specs.Vector.{IsVector, vector_of}
 use Rattle.ff_theory.proofs.Results.{ok_map}
 use Rattle.ff_charts.specs.Lattice.{HasShape}
 use Rattle.ff_lin.proofs.InsertRow.{basis_vectors}
-use Rattle.ff_data.proofs.NumeratorLemmas.{order_length, if_some}
+use Rattle.ff_data.proofs.NumeratorLemmas.{order_length, solved_vector, unsolved_vector}
+use Rattle.ff_data.proofs.NumeratorLemmas.{if_some, match_some, match_none}
 use Rattle.ff_frac.proofs.values.coefficients.Goals as goal
 
 pub overflow_sub-l : goal.overflow_sub-l
@@ -54,7 +55,24 @@ pub returns : goal.returns
 returns g c =
     let F = g.K.Ring.elements c.args.alg.now.k in
     let items : Vec ℕ Global → _ = λ v. v.items in
-    ok_map _ _ c.solve.result
-    (λ r h. if_some r _ _ (λ x k. subst (λ n. IsVector F n x.items)
-    (sym (length-map c.basis.result.now items) ∙ ap length c.basis.ensures) k) h)
-    c.solve.ensures.vector
+    let o = c.args.order.now in
+    let N = plane_of F c.args.low.now in
+    let l : length c.coeffs.result.now - 1 ≡ pred (length o.d) =
+    omega (arith, ap length c.coeffs.ensures) in
+    let v = c.in_ok-v.v.items in
+    let same = c.deref.ensures.value in
+    let value = c.in_ok-v.ensures.value in
+    record {
+      vector = ok_map _ _ c.solve.result
+          (λ r h. if_some r _ _ (λ x k. subst (λ n. IsVector F n x.items)
+          (sym (length-map c.basis.result.now items) ∙ ap length c.basis.ensures) k) h)
+          c.solve.ensures.vector;
+      some = ok_map _ _ c.solve.result
+          (λ r h. match_some r _ _ _ (λ x k. solved_vector F o N _ (length c.coeffs.result.now - 1)
+          v _ c.basis.ensures l same value (vector_of F x.items) k) h)
+          c.solve.ensures.answer;
+      none = ok_map _ _ c.solve.result
+          (λ r h. match_none r _ _ _ (λ n. unsolved_vector F o N _
+          (length c.coeffs.result.now - 1) v _ c.basis.ensures l same value n) h)
+          c.solve.ensures.answer;
+    }

@@ -7,7 +7,7 @@ use Rattle.ff_functions.proofs.frame.shifted.Goals as goal
 pub add_scaled-requires : goal.add_scaled-requires
 add_scaled-requires g c =
     let F = g.K.Ring.elements c.args.k.now in
-    let z = c.in_ok-v.ensures in
+    let z = c.in_ok-v.ensures.vector in
     record {
       sum = subst (All (IsElement F)) (sym c.deref_mut.ensures.value) z.each;
       c = c.one.ensures.element;
@@ -29,5 +29,5 @@ returns g c =
     (sym (with_items_is c.in_ok-v.v c.add_scaled.new.sum (e.len ∙ c.deref_mut.ensures.len)))
     record {
       each = e.each;
-      len = e.len ∙ ap length c.deref_mut.ensures.value ∙ c.in_ok-v.ensures.len;
+      len = e.len ∙ ap length c.deref_mut.ensures.value ∙ c.in_ok-v.ensures.vector.len;
     }

@@ -24,4 +24,4 @@ loop-v-preserved g c =
     let n = y_degree L c.args.alg.now.f * c.args.l in
     subst (AreVectors F n) (sym c.in_ok-push.ensures.items)
     (All-push (λ (v : Vec ℕ Global). IsVector F n v.items) c.loop-v.list.items
-    c.in_ok-raised.field-0 c.loop-v.invariant c.in_ok-raised.ensures)
+    c.in_ok-raised.field-0 c.loop-v.invariant c.in_ok-raised.ensures.vector)

@@ -1,7 +1,10 @@
 use Rattle.std.proofs.Common.{sym, subst}
-use Rattle.ff_common.specs.Common.{AreRowsWithin}
+use Rattle.ff_theory.specs.Vector.{vector_of}
+use Rattle.ff_theory.proofs.Results.{ok_map}
+use Rattle.ff_common.specs.Common.{AreRowsWithin, IsReversed}
 use Rattle.ff_common.proofs.ReversedImages.{by_length}
 use Rattle.ff_data.specs.Orders.{y_degree}
+use Rattle.ff_functions.proofs.ShortImages.{short_image}
 use Rattle.ff_functions.proofs.images.image.Goals as goal
 
 pub quotient_rows-requires : goal.quotient_rows-requires
@@ -26,3 +29,19 @@ reversed_vector-requires g c =
           c.in_ok-quotients.ensures.rows;
       positive = c.requires.positive;
     }
+
+pub returns-clause-value : goal.returns-clause-value
+returns-clause-value g c =
+    let F = g.K.Ring.elements c.args.alg.now.k in
+    let L = g.K.Ring.lawful c.args.alg.now.k in
+    let a = c.args.alg.now in
+    let d = c.args.d.now in
+    let by = c.in_ok-by in
+    let q = c.in_ok-quotients in
+    let V = vector_of F in
+    ok_map _ _ c.reversed_vector.result
+    (λ r h short. short_image F L a.f a.plane a.has_y d c.requires.d c.requires.nonzero c.args.l
+    c.args.h c.requires.positive q.quotients.items (V c.args.v.now) (V r.items) by.by
+    by.ensures.value q.ensures
+    (subst (λ t. IsReversed F c.args.h t (V r.items)) c.deref.ensures.value h) short)
+    c.reversed_vector.ensures.value

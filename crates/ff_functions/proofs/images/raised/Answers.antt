@@ -1,4 +1,7 @@
-use Rattle.std.proofs.Common.{ap, arith}
+use Rattle.std.proofs.Common.{ap, subst, arith}
+use Rattle.ff_theory.specs.Vector.{vector_of}
+use Rattle.ff_theory.proofs.Results.{ok_map}
+use Rattle.ff_common.specs.Common.{IsTimesVector}
 use Rattle.ff_theory.specs.Division.{size}
 use Rattle.ff_theory.specs.Lawful.{lawful_field}
 use Rattle.ff_poly.proofs.LongDivision.{poly-size}
@@ -21,3 +24,13 @@ times_vector-requires g c =
       );
       vector = c.requires.vector;
     }
+
+pub returns-clause-value : goal.returns-clause-value
+returns-clause-value g c =
+    let F = g.K.Ring.elements c.args.alg.now.k in
+    let L = g.K.Ring.lawful c.args.alg.now.k in
+    let f = c.args.alg.now.f in
+    let V = vector_of F in
+    ok_map _ _ c.times_vector.result
+    (λ r. subst (λ X. IsTimesVector L f X c.args.m c.args.h (V c.args.v.now) (V r.items))
+    c.in_ok-factor.ensures.value) c.times_vector.ensures.value

@@ -1,4 +1,4 @@
-use Rattle.std.proofs.Common.{ℕ, ◌<◌, length, arith, subst, below_more}
+use Rattle.std.proofs.Common.{◌≡◌, true, false, IsTrue, ℕ, ◌<◌, length, arith, subst, below_more}
 use Rattle.std.proofs.lemmas.List.{get_or_default}
 use Rattle.ff_functions.specs.declared.numbers.PoleNumber.{PoleNumber}
 use Rattle.ff_functions.specs.Searches.{HasClass}
@@ -15,12 +15,32 @@ loop-i-preserved c = below_more _ _ c.loop-i.invariant (c.class_index.ensures.cl
     (omega (arith, c.class_index.ensures.within, c.if-class_index-numbers.false)))
 
 pub returns : goal.returns
-returns c = λ _.
+returns c =
     let numbers = c.args.numbers.now in
     let some : 0 < length numbers = omega arith in
     record {
-      nonempty = some;
-      classes = λ d. subst (λ (p : PoleNumber). (i : ℕ) → i < p.j → HasClass numbers p.j i)
-          (get_or_default numbers 0 c.index-numbers-0.result d some)
-          (λ i l. c.loop-i.invariant i (omega (arith, l, c.loop-i-test.false)));
+      yes = λ _. record {
+        nonempty = some;
+        classes = λ d. subst (λ (p : PoleNumber). (i : ℕ) → i < p.j → HasClass numbers p.j i)
+            (get_or_default numbers 0 c.index-numbers-0.result d some)
+            (λ i l. c.loop-i.invariant i (omega (arith, l, c.loop-i-test.false)));
+      };
+      no = λ (e : true ≡ false). cc;
     }
+
+pub returns-then-numbers-eq0 : goal.returns-then-numbers-eq0
+returns-then-numbers-eq0 c = record {
+  yes = λ (e : IsTrue false). cc;
+  no = λ e h. absurd (omega (arith, h.nonempty, c.if-numbers-eq0.true));
+}
+
+pub returns-then-class_index-numbers : goal.returns-then-class_index-numbers
+returns-then-class_index-numbers c = record {
+  yes = λ (e : IsTrue false). cc;
+  no = λ e h. absurd (omega (
+    arith,
+    c.class_index.ensures.found (h.classes c.index-numbers-0.result c.loop-i.i
+        c.loop-i-test.true),
+    c.if-class_index-numbers.true,
+  ));
+}

@@ -32,7 +32,7 @@ run-requires g c = record {
     c.in_ok-frame.ensures.rows,
     ap (λ (o : Order). pred (length o.d)) (c.requires.own_infinite e),
   );
-  form = c.in_ok-search.ensures;
+  form = c.in_ok-search.ensures.form;
 }
 
 pub answer-requires : goal.answer-requires
@@ -40,5 +40,5 @@ answer-requires g c = record {
   order = c.requires.finite;
   own = c.requires.own;
   frame = c.in_ok-frame.ensures.form;
-  outcome = c.in_ok-outcome.ensures;
+  outcome = c.in_ok-outcome.ensures.form;
 }

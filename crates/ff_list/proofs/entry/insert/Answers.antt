@@ -1,16 +1,21 @@
-use Rattle.std.proofs.Common.{sym, subst}
-use Rattle.ff_list.specs.Lists.{IsTrueList}
+use Rattle.std.proofs.Common.{All, sym, subst}
+use Rattle.ff_data.specs.Pairs.{IsPair}
 use Rattle.ff_list.specs.Searches.{BelongsAt}
-use Rattle.ff_list.proofs.RisingLists.{insert-true}
 use Rattle.ff_list.proofs.entry.insert.Goals as goal
 
-pub returns-in_ok-insert-in-Some : goal.returns-in_ok-insert-in-Some
-returns-in_ok-insert-in-Some g c =
-    let F = g.K.Ring.elements c.args.alg2.now.k in
-    let L = g.K.Ring.lawful c.args.alg2.now.k in
-    let f = c.args.alg1.now.f in
-    let h = c.args.alg2.now.f in
-    let i = c.in-Some.i in
-    subst (IsTrueList L f h) (sym c.in_ok-insert-in-Some.ensures.items)
-    (insert-true L f h c.args.list.now.items c.args.entry i c.requires.list c.requires.entry
-    (subst (λ l. BelongsAt F l c.args.entry.pair i) c.deref.ensures.value c.in-Some.ensures))
+pub index_of-requires : goal.index_of-requires
+index_of-requires g c =
+    let alg = c.args.alg2.now in
+    record {
+      list = subst (All (λ e. IsPair (g.K.Ring.lawful alg.k) alg.f e.pair))
+          (sym c.deref.ensures.value) (λ k d l. (c.requires.list.each k d l).pair);
+      pair = c.requires.entry.pair;
+    }
+
+pub insert_at-requires : goal.insert_at-requires
+insert_at-requires g c = record {
+  list = c.requires.list;
+  entry = c.requires.entry;
+  place = subst (λ l. BelongsAt (g.K.Ring.elements c.args.alg2.now.k) l c.args.entry.pair
+      c.in-Some.i) c.deref.ensures.value c.in-Some.ensures;
+}

@@ -1,4 +1,4 @@
-use Rattle.std.proofs.Common.{◌≡◌, ℕ, ◌+◌, ◌-◌, ◌*◌, ◌/◌, ◌%◌, ◌<◌, ◌≤◌, ◌⊎◌, inl, inr, suc, [], ◌∷◌, length, get_or, refl, sym, ◌∙◌, ap, ap₂, subst, arith}
+use Rattle.std.proofs.Common.{◌-◌, ◌*◌, ◌/◌, ◌∙◌, ap, arith}
 use Rattle.ff_data.specs.Systems.{weight_at}
 use Rattle.ff_relation.specs.InRing.{number_at}
 use Rattle.ff_relation.proofs.BaseLemmas.{numbers-push, numbers-count}

@@ -1,4 +1,4 @@
-use Rattle.std.proofs.Common.{◌≡◌, ℕ, ◌+◌, ◌-◌, ◌*◌, ◌/◌, ◌%◌, ◌<◌, ◌≤◌, ◌⊎◌, inl, inr, suc, [], ◌∷◌, length, get_or, refl, sym, ◌∙◌, ap, ap₂, subst, arith}
+use Rattle.std.proofs.Common.{sym, subst}
 use Rattle.ff_table.specs.Powers.{IsPrimeTo}
 use Rattle.ff_relation.specs.InRing.{AreLimits, HaveGaps, ArePowersOf}
 use Rattle.ff_relation.proofs.bases.power_basis.Goals as goal

@@ -1,4 +1,3 @@
-use Rattle.std.proofs.Common.{◌≡◌, ℕ, ◌+◌, ◌-◌, ◌*◌, ◌/◌, ◌%◌, ◌<◌, ◌≤◌, ◌⊎◌, inl, inr, suc, [], ◌∷◌, length, get_or, refl, sym, ◌∙◌, ap, ap₂, subst, arith}
 use Rattle.std.proofs.lemmas.Nat.Gcd.{IsGcd-from_zero, IsGcd-from_mod}
 use Rattle.ff_relation.proofs.Coprime.{difference-zero, difference-mod}
 use Rattle.ff_relation.proofs.choice.+gcd.Goals as goal
@@ -13,4 +12,5 @@ pub returns-clause-divisor : goal.returns-clause-divisor
 returns-clause-divisor t c = IsGcd-from_mod c.args.a c.args.b c.gcd.result c.gcd.ensures.divisor
 
 pub returns-clause-difference : goal.returns-clause-difference
-returns-clause-difference t c = difference-mod c.args.a c.args.b c.gcd.result c.gcd.ensures.difference
+returns-clause-difference t c = difference-mod c.args.a c.args.b c.gcd.result
+    c.gcd.ensures.difference

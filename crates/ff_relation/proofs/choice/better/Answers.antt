@@ -1,7 +1,4 @@
-use Rattle.std.proofs.Common.{◌≡◌, ℕ, ◌+◌, ◌-◌, ◌*◌, ◌/◌, ◌%◌, ◌<◌, ◌≤◌, ◌⊎◌, inl, inr, suc, [], ◌∷◌, length, get_or, refl, sym, ◌∙◌, ap, ap₂, subst, arith}
-use Rattle.std.specs.Int.{IsGcd}
 use Rattle.ff_data.specs.Systems.{weight_at}
-use Rattle.ff_relation.specs.Combination.{IsDifference}
 use Rattle.ff_relation.proofs.Coprime.{gcd-is_one, difference-is_one}
 use Rattle.ff_relation.proofs.choice.better.Goals as goal
 

@@ -1,9 +1,6 @@
-use Rattle.std.proofs.Common.{◌≡◌, ℕ, ◌+◌, ◌-◌, ◌*◌, ◌/◌, ◌%◌, ◌<◌, ◌≤◌, ◌⊎◌, inl, inr, suc, [], ◌∷◌, length, get_or, refl, sym, ◌∙◌, ap, ap₂, subst, arith}
-use Rattle.std.proofs.lemmas.Bool.{cases_lt}
-use Rattle.std.specs.Int.{IsGcd}
+use Rattle.std.proofs.Common.{length, ap, arith}
 use Rattle.ff_data.specs.declared.system.System.{System}
 use Rattle.ff_data.specs.Systems.{weight_at}
-use Rattle.ff_relation.specs.Combination.{IsDifference}
 use Rattle.ff_relation.proofs.Coprime.{prime-more}
 use Rattle.ff_relation.proofs.choice.choice.Goals as goal
 

@@ -1,6 +1,4 @@
-use Rattle.std.proofs.Common.{◌≡◌, ℕ, ◌<◌, sym, subst, arith, ap, refl, length, All, ◌∙◌}
-use Rattle.std.proofs.lemmas.List.Elements.{All-push}
-use Rattle.ff_theory.specs.Ring.{IsElement}
+use Rattle.std.proofs.Common.{arith, ap, refl, ◌∙◌}
 use Rattle.ff_theory.specs.Vector.{vector_of}
 use Rattle.ff_theory.proofs.Coeffs.{coeff-push}
 use Rattle.ff_relation.proofs.SplitLemmas.{padded-whole, vector-push}

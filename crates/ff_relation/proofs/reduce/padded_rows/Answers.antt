@@ -1,4 +1,4 @@
-use Rattle.std.proofs.Common.{refl, arith, ap, sym, ◌∙◌, length}
+use Rattle.std.proofs.Common.{refl, arith, ap, ◌∙◌, length}
 use Rattle.ff_theory.specs.Values.{poly_of}
 use Rattle.ff_poly.proofs.RowLists.{row-value, row-length}
 use Rattle.ff_ring.specs.Entries.{entry_at}

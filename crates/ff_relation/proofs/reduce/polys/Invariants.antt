@@ -1,4 +1,3 @@
-use Rattle.std.proofs.Common.{◌≡◌, ℕ, ◌<◌, length}
 use Rattle.ff_lin.specs.Space.{rows_of}
 use Rattle.ff_ring.specs.Entries.{entry_at, AreEntries}
 use Rattle.ff_relation.proofs.reduce.polys.Given as goal

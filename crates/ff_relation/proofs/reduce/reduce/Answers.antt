@@ -1,4 +1,3 @@
-use Rattle.std.proofs.Common.{◌≡◌, ℕ, ◌+◌, ◌-◌, ◌*◌, ◌/◌, ◌%◌, ◌<◌, ◌≤◌, ◌⊎◌, inl, inr, suc, [], ◌∷◌, length, get_or, refl, sym, ◌∙◌, ap, ap₂, subst, arith}
 use Rattle.ff_theory.proofs.Results.{ok_map}
 use Rattle.ff_ring.specs.Ring.{element_in}
 use Rattle.ff_relation.proofs.SplitLemmas.{split-start, sizes-within, levels-enough}

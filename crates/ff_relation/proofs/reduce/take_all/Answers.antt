@@ -1,4 +1,4 @@
-use Rattle.std.proofs.Common.{suc, refl, arith, subst, ◌≡◌, ◌-◌, ◌≤◌}
+use Rattle.std.proofs.Common.{suc, arith, subst, ◌≡◌, ◌-◌}
 use Rattle.ff_relation.specs.InRing.{IsSplitBy}
 use Rattle.ff_relation.proofs.reduce.take_all.Goals as goal
 

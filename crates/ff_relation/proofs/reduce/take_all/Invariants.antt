@@ -1,4 +1,4 @@
-use Rattle.std.proofs.Common.{◌≡◌, ℕ, ◌<◌, ◌≤◌, ◌*◌, suc}
+use Rattle.std.proofs.Common.{◌<◌, ◌≤◌, ◌*◌, suc}
 use Rattle.ff_ring.specs.Ring.{ring_in}
 use Rattle.ff_relation.specs.Reduction.{AreTaken}
 use Rattle.ff_relation.specs.InRing.{PowersOf, SplitsDown}

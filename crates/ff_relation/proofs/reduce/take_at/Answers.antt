@@ -1,7 +1,7 @@
-use Rattle.std.proofs.Common.{◌≡◌, ℕ, ◌+◌, ◌-◌, ◌*◌, ◌/◌, ◌%◌, ◌<◌, ◌≤◌, ◌⊎◌, inl, inr, suc, [], ◌∷◌, length, get_or, refl, sym, ◌∙◌, ap, ap₂, subst, arith}
-use Rattle.ff_lin.specs.Space.{rows_of}
-use Rattle.ff_relation.specs.InRing.{number_at, coefficient_in}
-use Rattle.ff_relation.proofs.SplitLemmas.{split-low, split-zero, number-read, coefficient-read, row-room}
+use Rattle.std.proofs.Common.{◌≡◌, ◌<◌, length, sym, arith}
+use Rattle.ff_relation.specs.InRing.{number_at}
+use Rattle.ff_relation.proofs.SplitLemmas.{split-low, split-zero, number-read, coefficient-read}
+use Rattle.ff_relation.proofs.SplitLemmas.{row-room}
 use Rattle.ff_relation.proofs.reduce.take_at.Goals as goal
 
 pub returns-then-d-index-clause-exact : goal.returns-then-d-index-clause-exact

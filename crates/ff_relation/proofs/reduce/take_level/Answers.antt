@@ -1,4 +1,4 @@
-use Rattle.std.proofs.Common.{◌≡◌, ℕ, ◌+◌, ◌-◌, ◌*◌, ◌/◌, ◌%◌, ◌<◌, ◌≤◌, ◌⊎◌, inl, inr, suc, [], ◌∷◌, length, get_or, refl, sym, ◌∙◌, ap, ap₂, subst, arith}
+use Rattle.std.proofs.Common.{◌+◌, ◌-◌, ◌*◌, ◌/◌, ◌%◌, sym, ◌∙◌, ap, arith}
 use Rattle.ff_data.specs.Systems.{weight_at}
 use Rattle.ff_relation.proofs.SplitLemmas.{split-no_level, level-below, level-parts}
 use Rattle.ff_relation.proofs.reduce.take_level.Goals as goal

@@ -1,4 +1,4 @@
-use Rattle.std.proofs.Common.{◌≡◌, ℕ, ◌+◌, ◌-◌, ◌*◌, ◌/◌, ◌%◌, ◌<◌, ◌≤◌, suc, [], ◌∷◌, length, get_or, refl, sym, ◌∙◌, ap, ap₂, subst, arith}
+use Rattle.std.proofs.Common.{◌∙◌, ap, arith}
 use Rattle.ff_theory.specs.Values.{poly_of}
 use Rattle.ff_ring.specs.Entries.{entry_at}
 use Rattle.ff_relation.proofs.RelationLemmas.{minus-one}

@@ -1,4 +1,4 @@
-use Rattle.std.proofs.Common.{◌≡◌, ℕ, ◌+◌, ◌-◌, ◌*◌, ◌/◌, ◌%◌, ◌<◌, ◌≤◌, suc, [], ◌∷◌, length, get_or, refl, sym, ◌∙◌, ap, ap₂, subst, arith}
+use Rattle.std.proofs.Common.{length, sym, subst}
 use Rattle.ff_table.specs.Powers.{IsPrimeTo}
 use Rattle.ff_table.specs.Table.{Weighs}
 use Rattle.ff_data.specs.Systems.{weight_at}

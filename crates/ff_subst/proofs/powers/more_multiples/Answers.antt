@@ -26,7 +26,7 @@ returns-clause-multiples g c =
     let f = c.args.alg.now.f in
     let A = algebra_in L f in
     let m = c.args.m.now in
-    let n = length c.args.at.list.planes in
+    let n = length c.args.at.now.list.planes in
     λ u v k h. record {
       list = c.in_ok-list.ensures.residues (λ j. A.mul u (power A v j)) h.list h.next;
       next = residue-is K L f m _ _ c.in_ok-next.next

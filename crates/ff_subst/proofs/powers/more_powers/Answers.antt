@@ -25,7 +25,7 @@ returns-clause-powers g c =
     let f = c.args.alg.now.f in
     let A = algebra_in L f in
     let u = elem_of L f c.args.e.now in
-    let at = c.args.at in
+    let at = c.args.at.now in
     λ h. record {
       list = c.in_ok-list.ensures.residues (λ j. A.mul u (power A u j)) h.list h.next;
       next = c.in_ok-next.ensures.value

@@ -14,3 +14,11 @@ returns-clause-shape g c =
     (λ r h. listed_shape F L c.args.modulus.now c.requires.modulus (y_degree L f)
     c.in_ok-raised.raised (plane_of F r) h c.in_ok-raised.ensures.few)
     c.residues.ensures.value
+
+pub returns-clause-value : goal.returns-clause-value
+returns-clause-value g c =
+    ok_map _ _ c.residues.result (λ r h. record {
+      quotient = _;
+      product = c.in_ok-raised.ensures.value;
+      residues = h;
+    }) c.residues.ensures.value

@@ -4,6 +4,7 @@ use Rattle.ff_data.specs.Orders.{chart_of, y_degree}
 use Rattle.ff_data.proofs.ChartLaws.{chart_laws}
 use Rattle.ff_data.proofs.NumeratorLemmas.{order_length}
 use Rattle.ff_frac.proofs.FractionLemmas.{product_length, listed_shape}
+use Rattle.ff_frac.proofs.PowerLemmas.{first_power}
 use Rattle.ff_frac.proofs.powers.Powers.of.Goals as goal
 
 pub residues-requires-clause-nonzero : goal.residues-requires-clause-nonzero
@@ -18,8 +19,8 @@ residues-requires-clause-nonzero g c =
     c.in_ok-modulus.ensures.value in
     omega (arith, e)
 
-pub returns : goal.returns
-returns g c =
+pub returns-clause-form : goal.returns-clause-form
+returns-clause-form g c =
     let F = g.K.Ring.elements c.args.alg.now.k in
     let L = g.K.Ring.lawful c.args.alg.now.k in
     let f = c.args.alg.now.f in
@@ -47,3 +48,10 @@ returns g c =
             (plane_of F c.in_ok-power.power) c.in_ok-power.ensures.value c.requires.few;
       };
     }
+
+pub returns-clause-exact : goal.returns-clause-exact
+returns-clause-exact g c p place root multiplier =
+    first_power (g.K.Ring.elements c.args.alg.now.k) (g.K.Ring.lawful c.args.alg.now.k)
+    c.args.alg.now.f c.args.alg.now.plane c.args.alg.now.has_y c.args.order.now p place _
+    (returns-clause-form g c) root multiplier c.in_ok-modulus.ensures.value
+    c.in_ok-power.ensures.value

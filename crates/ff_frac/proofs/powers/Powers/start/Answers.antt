@@ -1,4 +1,5 @@
 use Rattle.std.proofs.Common.{sym, subst}
+use Rattle.ff_theory.proofs.Results.{ok_map}
 use Rattle.ff_data.specs.Orders.{chart_of}
 use Rattle.ff_data.proofs.LocalOrder.{root_modulus}
 use Rattle.ff_frac.proofs.powers.Powers.start.Goals as goal
@@ -11,3 +12,8 @@ of-requires-clause-modulus g c =
     let chart = c.args.order.now.chart in
     subst (chart_of L f chart).IsModulus (sym c.in_ok-root.ensures.value)
     (root_modulus F L f chart (F.value c.args.point.now.a) c.requires.point.at_infinity)
+
+pub returns-clause-exact : goal.returns-clause-exact
+returns-clause-exact g c place =
+    ok_map _ _ c.of.result (λ r k. k c.args.point.now place c.in_ok-root.ensures.value
+    (c.in_ok-multiplier.ensures.value place)) c.of.ensures.exact

@@ -1,9 +1,10 @@
-use Rattle.std.proofs.Common.{◌≡◌, ◌<◌, ◌+◌, ℕ, length, sym, subst, arith}
+use Rattle.std.proofs.Common.{◌≡◌, ◌<◌, ◌+◌, ℕ, length, refl, sym, subst, arith}
 use Rattle.ff_theory.specs.Values.{poly_of}
 use Rattle.ff_data.specs.Orders.{chart_of}
 use Rattle.ff_data.proofs.ChartLaws.{chart_laws}
 use Rattle.ff_data.proofs.NumeratorLemmas.{order_length}
 use Rattle.ff_frac.proofs.FractionLemmas.{product_length}
+use Rattle.ff_frac.proofs.PowerLemmas.{next_power}
 use Rattle.ff_frac.proofs.powers.Powers.step.Goals as goal
 
 pub next-requires : goal.next-requires
@@ -24,8 +25,8 @@ next-requires g c =
       nonzero = omega (arith, e);
     }
 
-pub returns : goal.returns
-returns g c =
+pub returns-clause-form : goal.returns-clause-form
+returns-clause-form g c =
     let F = g.K.Ring.elements c.args.alg.now.k in
     let L = g.K.Ring.lawful c.args.alg.now.k in
     let f = c.args.alg.now.f in
@@ -54,3 +55,10 @@ returns g c =
         shape = c.in_ok-power.ensures.shape;
       };
     }
+
+pub returns-clause-exact : goal.returns-clause-exact
+returns-clause-exact g c p place k =
+    next_power (g.K.Ring.elements c.args.alg.now.k) (g.K.Ring.lawful c.args.alg.now.k)
+    c.args.alg.now.f c.args.alg.now.plane c.args.alg.now.has_y c.args.order.now p place
+    c.args.self _ c.in_ok-modulus.ensures.value c.in_ok-power.ensures.value c.args.i
+    c.requires.form k refl refl

@@ -1,6 +1,6 @@
 use Rattle.std.proofs.Common.{◌≡◌, ◌*◌, length, subst, arith}
 use Rattle.ff_data.specs.Orders.{y_degree}
-use Rattle.ff_functions.specs.Searches.{AreRows}
+use Rattle.ff_functions.specs.Searches.{AreRows, HoldNumerators}
 use Rattle.ff_functions.proofs.frame.Frame.start.Goals as goal
 
 pub with_numerator-requires : goal.with_numerator-requires
@@ -9,7 +9,19 @@ with_numerator-requires g c = record {
   nonzero = c.requires.nonzero;
   form = c.requires.form;
   index = omega (arith, c.loop-i-test.true);
-  rows = c.loop-i.invariant;
+  rows = c.loop-i.invariant.rows;
+}
+
+pub loop-i-init : goal.loop-i-init
+loop-i-init g c = record {
+  rows = c.in_ok-echelon.ensures.rows;
+  held = c.in_ok-echelon.ensures.held c.args.d.now;
+}
+
+pub loop-i-preserved : goal.loop-i-preserved
+loop-i-preserved g c = record {
+  rows = c.in_ok-echelon-2.ensures.rows;
+  held = c.in_ok-echelon-2.ensures.held c.args.infinite.now c.loop-i.invariant.held;
 }
 
 pub returns : goal.returns
@@ -19,5 +31,9 @@ returns g c =
     let s = c.args.self.now in
     let e : c.loop-i.i ≡ length s.numerators.items =
     omega (arith, c.loop-i-test.false, c.loop-i.auto.i-end) in
-    subst (λ m. AreRows F (y_degree L c.args.alg.now.f * s.h) m c.loop-i.echelon.rows.items) e
-    c.loop-i.invariant
+    record {
+      rows = subst (λ m. AreRows F (y_degree L c.args.alg.now.f * s.h) m
+          c.loop-i.echelon.rows.items) e c.loop-i.invariant.rows;
+      held = subst (λ m. HoldNumerators L c.args.alg.now.f s c.args.d.now c.args.infinite.now m
+          c.loop-i.echelon.rows.items) e c.loop-i.invariant.held;
+    }

@@ -1,5 +1,9 @@
 use Rattle.std.proofs.Common.{◌≡◌, ◌*◌, ◌-◌, pred, length, sym, ◌∙◌, ap, subst, arith}
 use Rattle.ff_theory.proofs.Results.{ok_map}
+use Rattle.ff_theory.specs.Ring.{power}
+use Rattle.ff_theory.specs.Monomial.{variable}
+use Rattle.ff_theory.specs.Values.{polys_over}
+use Rattle.ff_common.specs.Common.{IsTimesSpace}
 use Rattle.ff_lin.specs.Space.{IsSpaceOf}
 use Rattle.ff_data.specs.Orders.{y_degree}
 use Rattle.ff_data.proofs.NumeratorLemmas.{order_length}
@@ -36,6 +40,24 @@ rows_of-requires g c = record {
 pub returns : goal.returns
 returns g c =
     let F = g.K.Ring.elements c.args.alg.now.k in
-    ok_map _ _ c.rows_of.result
-    (λ r h. subst (λ n. AreRows F n 0 r.rows.items)
-    (c.len.ensures ∙ c.in_ok-space.ensures.space.len) h) c.rows_of.ensures
+    let L = g.K.Ring.lawful c.args.alg.now.k in
+    let f = c.args.alg.now.f in
+    let o = c.args.infinite.now in
+    let h = c.args.self.now.h in
+    let P = polys_over F in
+    let m : length c.coeffs.result.now - 1 ≡ pred (length o.d) =
+    omega (arith, ap length c.coeffs.ensures) in
+    let times = subst (λ m. IsTimesSpace L f (power P (variable F.ring) (h - m)) m h o.space
+    c.in_ok-space.space) m c.in_ok-space.ensures.times in
+    record {
+      rows = ok_map _ _ c.rows_of.result
+          (λ r h. subst (λ n. AreRows F n 0 r.rows.items)
+          (c.len.ensures ∙ c.in_ok-space.ensures.space.len) h) c.rows_of.ensures.rows;
+      held = ok_map _ _ c.rows_of.result (λ r held d. record {
+        target = c.in_ok-space.space;
+        times = times;
+        images = λ i j. F.zero;
+        each = λ l q. absurd (omega (arith, q));
+        hold = held (λ i j. F.zero);
+      }) c.rows_of.ensures.held;
+    }

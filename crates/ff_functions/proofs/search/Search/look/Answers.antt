@@ -1,8 +1,10 @@
-use Rattle.std.proofs.Common.{◌≡◌, ◌+◌, ◌-◌, ◌*◌, ℕ, pred, length, refl, sym, ◌∙◌, subst, arith}
+use Rattle.std.proofs.Common.{◌≡◌, ◌+◌, ◌-◌, ◌*◌, ℕ, pred, length, refl, sym, ◌∙◌, ap, subst}
+use Rattle.std.proofs.Common.{arith}
 use Rattle.ff_theory.proofs.Results.{ok_map}
+use Rattle.ff_theory.specs.Span.{unit_at}
 use Rattle.ff_theory.specs.Vector.{IsVector}
 use Rattle.ff_data.specs.Orders.{y_degree}
-use Rattle.ff_functions.specs.Searches.{HasTrailForm}
+use Rattle.ff_functions.specs.Searches.{HasTrailForm, HoldSearch, HoldDecided}
 use Rattle.ff_functions.proofs.SearchLemmas.{search_same}
 use Rattle.ff_functions.proofs.search.Search.look.Goals as goal
 
@@ -35,21 +37,32 @@ with_image-requires g c =
       positive = c.requires.positive;
       form = search_same L f c.args.order.now c.args.self (y_degree L f * frame.h)
           (length image.image.items) (length frame.numerators.items) c.len-c.result j (pred j)
-          (pred j) (sym image.ensures.len) d refl c.requires.form;
-      image = image.ensures.each;
-      origin = subst (λ n. IsVector F n c.in_ok-origin.origin.items) e c.in_ok-origin.ensures;
+          (pred j) (sym image.ensures.vector.len) d refl c.requires.form;
+      image = image.ensures.vector.each;
+      origin = subst (λ n. IsVector F n c.in_ok-origin.origin.items) e
+          c.in_ok-origin.ensures.vector;
+      unit = λ i. c.in_ok-origin.ensures.value i
+          ∙ ap (λ n. unit_at F.ring n i)
+          (omega (arith, c.len.ensures, c.requires.form.trail.count));
     }
 
 pub returns : goal.returns
 returns g c =
     let L = g.K.Ring.lawful c.args.alg.now.k in
     let f = c.args.alg.now.f in
+    let o = c.args.order.now in
     let j = c.args.j in
     let frame = c.args.frame.now in
     let image = c.in_ok-image in
     let d : c.len-c.result ≡ length frame.numerators.items =
     omega (arith, c.len-c.ensures) in
-    ok_map _ _ c.with_image.result
-    (λ r h. search_same L f c.args.order.now r.0 (length image.image.items)
-    (y_degree L f * frame.h) c.len-c.result (length frame.numerators.items) j j j
-    image.ensures.len d refl h) c.with_image.ensures
+    record {
+      form = ok_map _ _ c.with_image.result
+          (λ r h. search_same L f o r.0 (length image.image.items)
+          (y_degree L f * frame.h) c.len-c.result (length frame.numerators.items) j j j
+          image.ensures.vector.len d refl h) c.with_image.ensures.form;
+      held = ok_map _ _ c.with_image.result
+          (λ r held t first. subst (λ n. HoldSearch L f o frame.h n (pred j) t first c.args.self
+          → HoldDecided L f o frame.h n j t first r.0 r.1) d
+          (held frame.h image.ensures.value t first)) c.with_image.ensures.held;
+    }

@@ -1,4 +1,4 @@
-use Rattle.std.proofs.Common.{◌≤◌, length, sym, subst, arith, All}
+use Rattle.std.proofs.Common.{◌≤◌, [], ◌∷◌, ◌++◌, ◌∙◌, ap, length, sym, subst, arith, All}
 use Rattle.std.proofs.lemmas.List.Elements.{All-push}
 use Rattle.ff_theory.specs.Values.{IsPlane}
 use Rattle.ff_data.specs.Orders.{y_degree}
@@ -6,8 +6,8 @@ use Rattle.ff_data.specs.Vectors.{IsPlaneWithin}
 use Rattle.ff_functions.proofs.PlaneLemmas.{few_rows}
 use Rattle.ff_functions.proofs.search.Trail.noted.Goals as goal
 
-pub returns : goal.returns
-returns g c =
+pub returns-clause-form : goal.returns-clause-form
+returns-clause-form g c =
     let F = g.K.Ring.elements c.args.alg.now.k in
     let L = g.K.Ring.lawful c.args.alg.now.k in
     let n = y_degree L c.args.alg.now.f in
@@ -25,3 +25,7 @@ returns g c =
           });
       count = omega (arith, c.in_ok-push.ensures.len, h.count);
     }
+
+pub returns-clause-passed : goal.returns-clause-passed
+returns-clause-passed g c = c.in_ok-push.ensures.items
+    ∙ ap (λ x. c.args.self.passed.items ++ x ∷ []) c.in_ok-power.ensures

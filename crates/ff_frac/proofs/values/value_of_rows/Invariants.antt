@@ -1,0 +1,17 @@
+use Rattle.std.proofs.Common.{◌≡◌, ◌≤◌, length, drop}
+use Rattle.ff_theory.specs.Ring.{IsElement}
+use Rattle.ff_theory.specs.Eval.{eval_list}
+use Rattle.ff_frac.proofs.values.value_of_rows.Given as goal
+
+abbrev pub invariant-loop-i : goal.invariant-loop-i
+invariant-loop-i g l =
+    let F = g.K.Ring.elements l.k in
+    record {
+      below : l.i ≤ length l.rows;
+      element : IsElement F l.value;
+      value : F.value l.value ≡ eval_list F.ring (λ p. eval_list F.ring F.value (F.value l.a) p)
+          (F.value l.b) (drop l.i l.rows);
+    }
+
+abbrev pub decreases-loop-i : goal.decreases-loop-i
+decreases-loop-i g l = l.i

@@ -1,0 +1,2 @@
+-- Points of irreducible equations, and the least functions there
+pub mod Places

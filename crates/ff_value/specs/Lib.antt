@@ -1,0 +1,2 @@
+-- The rows from which a value is read
+pub mod Value
