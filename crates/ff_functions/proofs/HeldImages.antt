@@ -1,11 +1,11 @@
 -- Rows that hold the images of numerators: a combination of them is the image of a combination.
-use Rattle.std.proofs.Common.{◌≡◌, ℕ, zero, suc, ◌+◌ as plus_ℕ, ◌<◌, ◌≤◌, ◌⊎◌, inl, inr, List, []}
+use Rattle.std.proofs.Common.{◌≡◌, ℕ, zero, suc, ◌<◌, ◌≤◌, ◌⊎◌, inl, inr, List, []}
 use Rattle.std.proofs.Common.{◌∷◌, ◌++◌, length, refl, sym, ◌∙◌, ap, subst, arith}
 use Rattle.std.proofs.Common.{Option, None, Some, Vec, Global}
 use Rattle.std.proofs.lemmas.Bool.{cases_lt}
-use Rattle.ff_theory.specs.Ring.{RingOps, IsCommRing, Elements}
+use Rattle.ff_theory.specs.Ring.{Elements}
 use Rattle.ff_theory.specs.Lawful.{Lawful}
-use Rattle.ff_theory.specs.Span.{combination, InSpan, EndsAt, unit_at}
+use Rattle.ff_theory.specs.Span.{combination, InSpan, unit_at}
 use Rattle.ff_theory.proofs.Solver.{◌⊕◌, ◌⊗◌, neg, nil, unit, ring1, ring2, ring3, ring4}
 use Rattle.ff_theory.proofs.Solver.{mul_zero, zero_mul}
 use Rattle.ff_theory.proofs.Span.{span-same, span-zero, span-more, span-one, span-combination}
@@ -13,12 +13,12 @@ use Rattle.ff_theory.proofs.Span.{span-inside, unit-same, unit-other}
 use Rattle.ff_theory.proofs.Linear.{by_sums}
 use Rattle.ff_theory.proofs.Sums.{sum-ext, sum-mul, sum-zero, sum-single}
 use Rattle.ff_theory.specs.Vector.{vector_of, vectors_of}
-use Rattle.ff_lin.specs.Space.{SpaceParts, InSpace}
+use Rattle.ff_lin.specs.Space.{SpaceParts}
 use Rattle.ff_functions.specs.declared.echelon.Row.{Row}
 use Rattle.ff_functions.specs.Rows.{row_vectors, row_origins, IsShifted, InRows, IsExtended}
 use Rattle.ff_functions.specs.Rows.{IsIndependentOf, IsDependent, IsSpannedWith, put_last}
 use Rattle.ff_functions.specs.Rows.{HoldBasis, IsImageBy, IsSpanned, HoldImages, IsInserted}
-use Rattle.ff_functions.proofs.RowLemmas.{put-below, put-at, combination-put}
+use Rattle.ff_functions.proofs.RowLemmas.{put-below, put-at}
 
 module _ (F : Elements ℕ) (L : Lawful F) where
   -- what a row more spans

@@ -20,3 +20,25 @@ pub mod NumeratorImages
 pub mod NumberLemmas
 -- A search with one power more
 pub mod SearchImages
+-- Combinations of elements with poles of all orders
+pub mod PoleChains
+-- Pole numbers by such combinations
+pub mod PoleNumbers
+-- Dependent images
+pub mod PoleImages
+-- Proper fractions
+pub mod ProperLemmas
+-- How far elements reach at infinity
+pub mod ReachLemmas
+-- Images of powers
+pub mod PowerImages
+-- Pole numbers at a point of either chart
+pub mod PlaceSearch
+-- Combinations of given elements
+pub mod ElementSpans
+-- The numerators of multiples of a denominator
+pub mod FrameLemmas
+-- The elements with the numerators of a frame
+pub mod FrameElements
+-- Lists of numerators, with one more
+pub mod FrameLists

@@ -7,9 +7,9 @@ use Rattle.std.proofs.lemmas.Bool.{cases_lt}
 use Rattle.std.proofs.lemmas.List.{get_or-map, length_push}
 use Rattle.ff_theory.specs.Ring.{RingOps, IsCommRing, Elements}
 use Rattle.ff_theory.specs.Lawful.{Lawful}
-use Rattle.ff_theory.specs.Poly.{coeff, Poly, poly, polynomials, list_scale}
+use Rattle.ff_theory.specs.Poly.{coeff, Poly, poly, list_scale}
 use Rattle.ff_theory.specs.Monomial.{raised, monomial}
-use Rattle.ff_theory.specs.Span.{combination, InSpan}
+use Rattle.ff_theory.specs.Span.{combination}
 use Rattle.ff_theory.specs.Values.{poly_of, polys_over}
 use Rattle.ff_theory.specs.Vector.{vector_of}
 use Rattle.ff_theory.proofs.Coeffs.{coeff-push, coeff-past}

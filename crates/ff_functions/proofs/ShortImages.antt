@@ -1,10 +1,9 @@
 -- Where an element with a numerator over d has poles of low order at infinity, its image is whole.
 use Rattle.std.proofs.Common.{◌≡◌, ℕ, zero, suc, pred, ◌+◌ as plus_ℕ, ◌*◌ as times_ℕ, ◌-◌, ◌<◌}
 use Rattle.std.proofs.Common.{◌≤◌}
-use Rattle.std.proofs.Common.{List, [], ◌∷◌, length, max, refl, sym, ◌∙◌, ap, subst, arith}
-use Rattle.std.proofs.Common.{get_or, All}
+use Rattle.std.proofs.Common.{List, [], ◌∷◌, length, refl, ◌∙◌, ap, subst, arith}
 use Rattle.std.proofs.Math.Nat.{mul-le-mul_right}
-use Rattle.ff_theory.specs.Ring.{RingOps, IsCommRing, Elements, power}
+use Rattle.ff_theory.specs.Ring.{Elements, power}
 use Rattle.ff_theory.specs.Lawful.{Domain, Field, Lawful, lawful_field}
 use Rattle.ff_theory.specs.Poly.{coeff, Poly, polynomials}
 use Rattle.ff_theory.specs.Division.{size, IsDivision}
@@ -12,13 +11,11 @@ use Rattle.ff_theory.specs.Monomial.{variable}
 use Rattle.ff_theory.specs.Values.{poly_of, polys_of, IsPoly, ArePolys, IsPlane, x_size}
 use Rattle.ff_theory.proofs.Division.{size-add, size-neg, size-mul, size-mul-le}
 use Rattle.ff_theory.proofs.PolyMap.{polynomial_domain}
-use Rattle.ff_theory.proofs.Solver.{◌⊕◌, ◌⊗◌, neg, unit, ring2}
+use Rattle.ff_theory.proofs.Solver.{◌⊕◌, neg, ring2}
 use Rattle.ff_charts.proofs.InvertedChart.{variable_size}
 use Rattle.ff_quotients.proofs.QuotientResidues.{variable_power_size}
 use Rattle.ff_poly.proofs.LongDivision.{poly-size}
-use Rattle.ff_data.specs.declared.order.Chart.TheVariants.{Finite}
-use Rattle.ff_data.specs.Orders.{chart_of, slope_of, y_degree}
-use Rattle.ff_data.proofs.ChartLaws.{chart_degree}
+use Rattle.ff_data.specs.Orders.{slope_of, y_degree}
 use Rattle.ff_common.specs.Common.{AreQuotients, IsReversed, IsImage}
 use Rattle.ff_common.proofs.ReversedImages.{image_of, by_is, d_size}
 use Rattle.ff_functions.specs.Images.{IsShortOver}

@@ -2,6 +2,8 @@
 pub mod Rows
 -- Residues at infinity as vectors
 pub mod Images
+-- The elements that a search combines
+pub mod Elements
 -- The forms of what a search for functions holds
 pub mod Searches
 -- The functions that a search found

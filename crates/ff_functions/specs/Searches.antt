@@ -23,7 +23,6 @@ use Rattle.ff_frac.specs.Powers.{HasPowersForm}
 use Rattle.ff_functions.specs.Rows.{AreStepped, HoldImages, IsImageBy, IsSpanned}
 use Rattle.ff_functions.specs.Images.{IsShortOver}
 use Rattle.ff_functions.specs.declared.echelon.Row.{Row}
-use Rattle.ff_functions.specs.declared.echelon.Echelon.{Echelon}
 use Rattle.ff_functions.specs.declared.frame.Frame.{Frame}
 use Rattle.ff_functions.specs.declared.numbers.PoleNumber.{PoleNumber}
 use Rattle.ff_functions.specs.declared.search.Trail.{Trail}

@@ -1,14 +1,16 @@
 // What is combined: numerators of elements of the finite order, and the rows that hold their images
 // modulo the infinite order.
 ghost use Rattle.std.specs.Prelude.{◌≡◌, ℕ, ◌+◌, ◌*◌, ◌-◌, ◌<◌, ◌≤◌, List, pred, length, IfOk};
+ghost use Rattle.std.specs.Prelude.{IsTrue, ◌↔◌};
 ghost use Rattle.std.specs.List.{All};
 ghost use Rattle.ff_theory.specs.Ring.{IsElement};
 ghost use Rattle.ff_theory.specs.Values.{IsPoly};
 ghost use Rattle.ff_theory.specs.Vector.{vector_of, IsVector};
 ghost use Rattle.ff_theory.specs.Span.{unit_at};
-ghost use Rattle.ff_lin.specs.Space.{AreVectors, IsSpaceOf};
+ghost use Rattle.ff_lin.specs.Space.{AreVectors, IsSpaceOf, rows_of};
 ghost use Rattle.ff_data.specs.declared.order.Chart.TheVariants.{Finite, Infinite};
 ghost use Rattle.ff_data.specs.Orders.{y_degree, slope_of, IsOrder};
+ghost use Rattle.ff_functions.specs.Elements.{IsMultiple, HoldMultiples, IsGrown, AreNumerators};
 
 use crate::echelon::Echelon;
 use crate::images::{image, raised};
@@ -68,7 +70,9 @@ fn shifted<K: FiniteField<E = u32>>(
 ) -> Result<Vec<u32>, NoMemory>
     requires d { IsPoly (K.elements k.now) d.now }
     requires room { at + length d.now ≤ len }
-    ensures { IfOk result (λ v. IsVector (K.elements k.now) len v.items) }
+    ensures vector { IfOk result (λ v. IsVector (K.elements k.now) len v.items) }
+    ensures value { let F = K.elements k.now in
+        IfOk result (λ v. IsMultiple F d.now at (vector_of F v.items)) }
 {
     let mut v = zeros(alloc, k, len)?;
     k.add_scaled(&mut v, at, k.one(), d.coeffs());
@@ -76,7 +80,9 @@ fn shifted<K: FiniteField<E = u32>>(
 }
 
 /// Whether x^b times power i of y' has a pole of order m at most in the infinite chart.
-fn is_within(m: usize, slope: u32, i: usize, b: usize) -> bool {
+fn is_within(m: usize, slope: u32, i: usize, b: usize) -> bool
+    ensures { IsTrue result ↔ (i * slope + b ≤ m) }
+{
     match i.checked_mul(slope as usize) {
         Some(h) => h <= m && b <= m - h,
         None => false,
@@ -97,7 +103,9 @@ fn with_multiple<K: FiniteField<E = u32>>(
     requires d { IsPoly (K.elements k.now) d.now }
     requires room { at + length d.now ≤ len }
     requires list { AreVectors (K.elements k.now) len list.items }
-    ensures { IfOk result (λ r. AreVectors (K.elements k.now) len r.items) }
+    ensures vectors { IfOk result (λ r. AreVectors (K.elements k.now) len r.items) }
+    ensures grown { IfOk result
+        (λ r. IsGrown (K.elements k.now) d.now at wanted list.items r.items) }
 {
     if !wanted {
         return Ok(list);
@@ -127,7 +135,12 @@ fn with_multiples<K: FiniteField<E = u32>>(
     requires len { let L = K.lawful alg.now.k in len ≡ y_degree L alg.now.f * l }
     requires row { let L = K.lawful alg.now.k in i < y_degree L alg.now.f }
     requires list { AreVectors (K.elements alg.now.k) len list.items }
-    ensures { IfOk result (λ r. AreVectors (K.elements alg.now.k) len r.items) }
+    requires held { let L = K.lawful alg.now.k in HoldMultiples (K.elements alg.now.k) d.now l
+        (y_degree L alg.now.f) m slope i 0 (rows_of list.items) }
+    ensures vectors { IfOk result (λ r. AreVectors (K.elements alg.now.k) len r.items) }
+    ensures held { let L = K.lawful alg.now.k in
+        IfOk result (λ r. HoldMultiples (K.elements alg.now.k) d.now l
+        (y_degree L alg.now.f) m slope (i + 1) 0 (rows_of r.items)) }
 {
     let mut list = list;
     let start = i * l;
@@ -153,7 +166,10 @@ fn multiples<K: FiniteField<E = u32>>(
     requires nonzero { 0 < length d.now }
     requires room { length d.now + m ≤ l }
     requires len { let L = K.lawful alg.now.k in len ≡ y_degree L alg.now.f * l }
-    ensures { IfOk result (λ r. AreVectors (K.elements alg.now.k) len r.items) }
+    ensures vectors { IfOk result (λ r. AreVectors (K.elements alg.now.k) len r.items) }
+    ensures held { let L = K.lawful alg.now.k in let n = y_degree L alg.now.f in
+        IfOk result (λ r. HoldMultiples (K.elements alg.now.k) d.now l n m slope n 0
+        (rows_of r.items)) }
 {
     let mut list = Vec::new(alloc);
     for i in 0..alg.f.rows().len() - 1 {
@@ -176,8 +192,12 @@ fn with_vectors<K: FiniteField<E = u32>>(
     requires vectors { let L = K.lawful alg.now.k in
         AreVectors (K.elements alg.now.k) (y_degree L alg.now.f * short) vectors.now }
     requires room { short ≤ l }
-    ensures { let L = K.lawful alg.now.k in
+    ensures vectors { let L = K.lawful alg.now.k in
         IfOk result (λ r. AreVectors (K.elements alg.now.k) (y_degree L alg.now.f * l) r.items) }
+    ensures held { let L = K.lawful alg.now.k in IfOk result (λ r. (d : List ℕ) (m : ℕ) →
+        HoldMultiples (K.elements alg.now.k) d l (y_degree L alg.now.f) m
+        (slope_of L alg.now.f) (y_degree L alg.now.f) 0 (rows_of list.items) →
+        AreNumerators L alg.now.f d m short l (rows_of vectors.now) (rows_of r.items)) }
 {
     let mut list = list;
     for v in vectors {
@@ -216,8 +236,12 @@ fn numerators<K: FiniteField<E = u32>>(
 ) -> Result<Vec<Vec<u32>>, NoMemory>
     requires order { IsOrder (K.lawful alg.now.k) alg.now.f finite.now }
     requires l { l ≡ length finite.now.d + m }
-    ensures { let L = K.lawful alg.now.k in
+    requires slope { slope ≡ slope_of (K.lawful alg.now.k) alg.now.f }
+    ensures vectors { let L = K.lawful alg.now.k in
         IfOk result (λ r. AreVectors (K.elements alg.now.k) (y_degree L alg.now.f * l) r.items) }
+    ensures held { let L = K.lawful alg.now.k in IfOk result (λ r.
+        AreNumerators L alg.now.f finite.now.d m (pred (length finite.now.d)) l
+        finite.now.space.basis (rows_of r.items)) }
 {
     let short = finite.d.coeffs().len() - 1;
     match (alg.f.rows().len() - 1).checked_mul(l) {
@@ -232,6 +256,7 @@ fn numerators<K: FiniteField<E = u32>>(
 impl Frame {
     ghost use Rattle.ff_functions.specs.Rows.{HoldImages};
     ghost use Rattle.ff_functions.specs.Searches.{AreRows, HasFrameForm, HoldNumerators};
+    ghost use Rattle.ff_functions.specs.Elements.{HasFrameElements};
     ghost use Rattle.ff_data.specs.declared.order.Order.{Order};
 
     /// The frame for elements of the finite order with poles of order m at most at infinity.
@@ -244,6 +269,8 @@ impl Frame {
         requires order { IsOrder (K.lawful alg.now.k) alg.now.f finite.now }
         ensures form { IfOk result (HasFrameForm (K.lawful alg.now.k) alg.now.f) }
         ensures rows { IfOk result (λ r. m ≤ r.h) }
+        ensures elements { let L = K.lawful alg.now.k in finite.now.chart ≡ Finite →
+            IfOk result (λ r. HasFrameElements L alg.now.f r finite.now m) }
     {
         let slope = slope_at_infinity(alloc, alg)?;
         let h = image_rows(alg, slope, m)?;

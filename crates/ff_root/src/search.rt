@@ -23,7 +23,9 @@ use ff_ring::is_level;
 use std::alloc::Global;
 use std::sync::ledger::Ledger;
 
-/// Adds the child with the part c at the level t, and counts it.
+/// Adds the child with the part c at the level t, and counts it. It is a function of its own in the
+/// compiled program, so that its calls can be counted.
+#[inline(never)]
 fn push_child<K: FiniteField<E = u32>, L: Ledger>(
     alloc: Global,
     k: &K,

@@ -1,8 +1,10 @@
 use Rattle.std.proofs.Common.{◌≡◌, ◌*◌, ◌-◌, ℕ, pred, length, refl, sym, ◌∙◌, ap, subst, arith}
 use Rattle.std.proofs.Common.{Vec, Global}
-use Rattle.ff_lin.specs.Space.{AreVectors}
+use Rattle.ff_theory.proofs.Results.{ok_map}
+use Rattle.ff_lin.specs.Space.{AreVectors, rows_of}
 use Rattle.ff_lin.proofs.InsertRow.{basis_vectors}
 use Rattle.ff_data.specs.Orders.{y_degree}
+use Rattle.ff_functions.specs.Elements.{HoldMultiples, AreNumerators}
 use Rattle.ff_data.proofs.NumeratorLemmas.{order_length}
 use Rattle.ff_functions.proofs.frame.numerators.Goals as goal
 
@@ -39,9 +41,24 @@ with_vectors-requires g c =
     record {
       list = subst (λ n. AreVectors F n c.in_ok-list-in-Some.list.items)
           (c.in-Some.ensures.1 ∙ ap (λ r. (length r - 1) * c.args.l) c.rows.ensures)
-          c.in_ok-list-in-Some.ensures;
+          c.in_ok-list-in-Some.ensures.vectors;
       vectors = subst (λ l. AreVectors F (n * l) c.basis.result.now) short
           (basis_vectors F items c.basis.result.now c.basis.result.now o.space _ refl
           c.basis.ensures (sym space.len) space.space);
       room = omega (arith, c.requires.l, short);
     }
+
+pub returns-in_ok-list-in-Some-clause-held : goal.returns-in_ok-list-in-Some-clause-held
+returns-in_ok-list-in-Some-clause-held g c =
+    let F = g.K.Ring.elements c.args.alg.now.k in
+    let L = g.K.Ring.lawful c.args.alg.now.k in
+    let f = c.args.alg.now.f in
+    let o = c.args.finite.now in
+    let short : length c.coeffs.result.now - 1 ≡ pred (length o.d) =
+    omega (arith, ap length c.coeffs.ensures) in
+    ok_map _ _ c.with_vectors.result (λ r h. subst (λ rows. AreNumerators L f o.d c.args.m
+    (pred (length o.d)) c.args.l rows (rows_of r.items)) c.basis.ensures
+    (subst (λ n. AreNumerators L f o.d c.args.m n c.args.l (rows_of c.basis.result.now)
+    (rows_of r.items)) short (h o.d c.args.m (subst (λ e. HoldMultiples F o.d c.args.l
+    (y_degree L f) c.args.m e (y_degree L f) 0 (rows_of c.in_ok-list-in-Some.list.items))
+    c.requires.slope c.in_ok-list-in-Some.ensures.held)))) c.with_vectors.ensures.held

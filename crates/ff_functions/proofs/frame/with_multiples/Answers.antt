@@ -1,4 +1,7 @@
-use Rattle.std.proofs.Common.{◌-◌, length, arith}
+use Rattle.std.proofs.Common.{◌+◌, ◌*◌, ◌-◌, length, refl, arith}
+use Rattle.ff_lin.specs.Space.{rows_of}
+use Rattle.ff_data.specs.Orders.{y_degree}
+use Rattle.ff_functions.proofs.FrameLists.{hold_more, hold_row}
 use Rattle.ff_functions.proofs.SearchLemmas.{row_room}
 use Rattle.ff_functions.proofs.frame.with_multiples.Goals as goal
 
@@ -21,5 +24,31 @@ with_multiple-requires g c =
     record {
       d = c.requires.d;
       room = omega (arith, room, c.requires.len, c.requires.room, c.loop-b-test.true);
-      list = c.loop-b.invariant;
+      list = c.loop-b.invariant.0;
     }
+
+pub loop-b-init : goal.loop-b-init
+loop-b-init g c = (c.requires.list, c.requires.held)
+
+pub loop-b-preserved : goal.loop-b-preserved
+loop-b-preserved g c =
+    let F = g.K.Ring.elements c.args.alg.now.k in
+    let L = g.K.Ring.lawful c.args.alg.now.k in (
+      c.in_ok-list.ensures.vectors,
+      hold_more F c.args.d.now c.args.l (y_degree L c.args.alg.now.f) c.args.m c.args.slope
+          c.args.i c.loop-b.b (c.args.i * c.args.l + c.loop-b.b) c.requires.row refl
+          c.is_within-wanted.result c.is_within-wanted.ensures c.loop-b.list.items
+          c.in_ok-list.list.items
+          c.in_ok-list.ensures.grown c.loop-b.invariant.1,
+    )
+
+pub returns-clause-vectors : goal.returns-clause-vectors
+returns-clause-vectors g c = c.loop-b.invariant.0
+
+pub returns-clause-held : goal.returns-clause-held
+returns-clause-held g c =
+    let F = g.K.Ring.elements c.args.alg.now.k in
+    let L = g.K.Ring.lawful c.args.alg.now.k in
+    hold_row F c.args.d.now c.args.l (y_degree L c.args.alg.now.f) c.args.m c.args.slope c.args.i
+    c.loop-b.b (omega (arith, c.loop-b-test.false)) (rows_of c.loop-b.list.items)
+    c.loop-b.invariant.1
