@@ -7,10 +7,9 @@ use Rattle.ff_theory.specs.Values.{IsPlane}
 use Rattle.ff_elem.specs.Elem.{x_in, y_in}
 use Rattle.ff_data.specs.declared.system.System.{System}
 use Rattle.ff_forms.specs.declared.functions.Functions.{Functions}
-use Rattle.ff_systems.specs.Places.{HasLeastFunctions}
+use Rattle.ff_systems.specs.Places.{frame, HasLeastFunctions}
 use Rattle.ff_systems.proofs.TableRule.{least_write}
 use Rattle.ff_systems.proofs.Systems.{is_system}
-use Rattle.ff_describe.specs.Levels.{frame}
 use Rattle.ff_describe.specs.Described.{frame_of, HasFunctions, AreFunctionsWithin, IsDescribed}
 use Rattle.ff_describe.specs.Described.{AllWritten, IsSystemWhereLeast, IsUnwrittenWhereLeast}
 use Rattle.ff_describe.proofs.SystemLemmas.{same-frame}

@@ -19,7 +19,8 @@ use Rattle.ff_elem.specs.Elem.{elem_of}
 use Rattle.ff_data.specs.declared.system.Coords.{Coords}
 use Rattle.ff_data.specs.Combinations.{IsRelationOf}
 use Rattle.ff_data.specs.Systems.{IsExpression, IsWithinWeight}
-use Rattle.ff_describe.specs.Levels.{offset, frame, HasLevels, AreCounts, AreDescending}
+use Rattle.ff_systems.specs.Places.{frame}
+use Rattle.ff_describe.specs.Levels.{offset, HasLevels, AreCounts, AreDescending}
 use Rattle.ff_describe.specs.Readings.{AreCut, IsLed, IsWrittenBy, IsWrittenIn, AreZero, AreLight}
 use Rattle.ff_describe.proofs.LevelSums.{spread}
 use Rattle.ff_describe.proofs.WrittenLemmas.{falling-writes, relation_for, writes-relation}

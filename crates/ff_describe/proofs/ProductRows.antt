@@ -30,8 +30,8 @@ use Rattle.ff_elem.specs.declared.elem.Elem.{Elem}
 use Rattle.ff_elem.specs.Elem.{algebra_in, elem_of}
 use Rattle.ff_data.specs.Substitution.{poly_at}
 use Rattle.ff_data.specs.Combinations.{elems_of, constant_in, IsRelationOf}
-use Rattle.ff_systems.specs.Places.{coords_value, HasLightCoords, WritesProducts}
-use Rattle.ff_describe.specs.Levels.{offset, triangle, frame, HasLevels, AreCounts, AreProducts}
+use Rattle.ff_systems.specs.Places.{frame, coords_value, HasLightCoords, WritesProducts}
+use Rattle.ff_describe.specs.Levels.{offset, triangle, HasLevels, AreCounts, AreProducts}
 use Rattle.ff_describe.specs.Levels.{product_of}
 use Rattle.ff_describe.specs.Readings.{AreCut, AreLight, AreZero, IsUnit}
 use Rattle.ff_table.proofs.Scalars.{zero-coeff}

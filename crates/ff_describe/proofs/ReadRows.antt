@@ -9,8 +9,8 @@ use Rattle.ff_lin.specs.Space.{SpaceParts, IsSpace, HasExactly}
 use Rattle.ff_elem.specs.declared.elem.Elem.{Elem}
 use Rattle.ff_data.specs.Combinations.{IsRelationOf}
 use Rattle.ff_forms.specs.declared.functions.Functions.{Functions}
-use Rattle.ff_systems.specs.Places.{WritesProducts}
-use Rattle.ff_describe.specs.Levels.{offset, triangle, frame, HasLevels, AreCounts, AreProducts}
+use Rattle.ff_systems.specs.Places.{frame, WritesProducts}
+use Rattle.ff_describe.specs.Levels.{offset, triangle, HasLevels, AreCounts, AreProducts}
 use Rattle.ff_describe.specs.Readings.{AreReadable}
 use Rattle.ff_describe.specs.Described.{frame_of}
 use Rattle.ff_describe.proofs.ElemLemmas.{triangle-next}

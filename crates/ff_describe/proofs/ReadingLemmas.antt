@@ -32,7 +32,8 @@ module _ (F : Elements ℕ) (e : ℕ) (weights counts : List ℕ) (rows : ℕ �
     rows-more j lists r longer h k s = record {
       count = let t : length (lists ++ r ∷ []) ≡ length lists + 1 = length_push lists r in
           omega (arith, t, h.count, ap length s);
-      row = pushed-at (λ j q. IsTriangleRow F e weights counts rows n j (j + 1) q) [] lists r longer j
+      row = pushed-at (λ j q. IsTriangleRow F e weights counts rows n j (j + 1) q) [] lists r longer
+          j
           s h.count h.row k;
     }
 

@@ -1,5 +1,6 @@
 -- Rows that grow, and entries of polynomials.
-use Rattle.std.proofs.Common.{◌≡◌, ℕ, zero, suc, ◌+◌, ◌-◌, ◌<◌, ◌≤◌, ◌⊎◌, inl, inr, List, [], ◌∷◌, ◌++◌}
+use Rattle.std.proofs.Common.{◌≡◌, ℕ, zero, suc, ◌+◌, ◌-◌, ◌<◌, ◌≤◌, ◌⊎◌, inl, inr}
+use Rattle.std.proofs.Common.{List, [], ◌∷◌, ◌++◌}
 use Rattle.std.proofs.Common.{length, map, get_or, refl, sym, ◌∙◌, ap, subst, arith}
 use Rattle.std.proofs.lemmas.Bool.{cases_lt}
 use Rattle.std.proofs.lemmas.List.{get_or_append_left, get_or_push, length-map}
@@ -163,6 +164,7 @@ module _ (K : Elements ℕ) (L : Lawful K) where
   read-short p c h e =
       let s : length (poly_of K p).coeffs ≡ length p
       = poly-size K.ring L.laws L.tests K.value p h.canonical in
-      let t : length (poly_of K p).coeffs ≡ length (poly_of K c).coeffs = ap (λ t. length t.coeffs) e in
+      let t : length (poly_of K p).coeffs ≡ length (poly_of K c).coeffs
+      = ap (λ t. length t.coeffs) e in
       let r : length (poly_of K c).coeffs ≤ length c = short-value c in
       omega (arith, s, t, r)

@@ -9,10 +9,10 @@ use Rattle.ff_data.specs.declared.system.Coords.{Coords}
 use Rattle.ff_data.specs.declared.system.System.{System}
 use Rattle.ff_data.specs.Combinations.{AreElems}
 use Rattle.ff_data.specs.Systems.{AreCoords, AreOverMonic, IsExpression, HasForm}
+use Rattle.ff_systems.specs.Places.{frame}
 use Rattle.ff_forms.specs.declared.functions.TheConstants.{POLE_LIMIT}
 use Rattle.ff_forms.specs.declared.functions.Functions.{Functions}
 use Rattle.ff_forms.specs.Forms.{HasFunctionsForm, IsWithinLimit}
-use Rattle.ff_describe.specs.Levels.{frame}
 use Rattle.ff_describe.specs.Described.{frame_of, HasFunctions, AreFunctionsWithin, IsTableOf}
 use Rattle.ff_describe.specs.Described.{IsDescribed}
 

@@ -15,7 +15,8 @@ use Rattle.ff_elem.specs.Elem.{algebra_in}
 use Rattle.ff_data.specs.declared.system.System.{System}
 use Rattle.ff_data.specs.Combinations.{elems_of, IsRelationOf}
 use Rattle.ff_data.specs.Systems.{AreCoords, IsWithinWeight, weight_at}
-use Rattle.ff_describe.specs.Levels.{offset, triangle, frame, product_of, HasLevels, AreCounts}
+use Rattle.ff_systems.specs.Places.{frame}
+use Rattle.ff_describe.specs.Levels.{offset, triangle, product_of, HasLevels, AreCounts}
 use Rattle.ff_describe.specs.Levels.{AreProducts}
 use Rattle.ff_describe.specs.Readings.{IsReading, IsTriangleRow, IsTriangle, IsSide, AreSides}
 use Rattle.ff_forms.specs.declared.functions.Functions.{Functions}
@@ -55,7 +56,8 @@ module _ (K : Elements ℕ) (L : Lawful K) (f : List (List ℕ)) where
           → IsProductEntry L f (frame e z b weights) i j (get_or (get_or lists j []) i [])
       entry i j le below =
           let row = h.row j (omega (arith, below, hw)) in
-          let read : IsReading K e weights counts (vectors_of K rows) (length heads) (triangle j + i)
+          let read : IsReading K e weights counts (vectors_of K rows) (length heads)
+          (triangle j + i)
           (get_or weights i 0 + get_or weights j 0) (get_or (get_or lists j []) i [])
           = row.reading i (omega (arith, le)) in
           let t : triangle j + suc j ≤ triangle (length b) = triangle-next (length b) j

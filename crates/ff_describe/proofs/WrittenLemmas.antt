@@ -29,7 +29,8 @@ use Rattle.ff_data.specs.declared.system.Coords.{Coords}
 use Rattle.ff_data.specs.Substitution.{poly_at}
 use Rattle.ff_data.specs.Combinations.{elems_of, constant_in, IsRelationOf}
 use Rattle.ff_data.specs.Systems.{ring_value, at_z, IsExpression, AreOverMonic, IsWithinWeight}
-use Rattle.ff_describe.specs.Levels.{offset, frame, HasLevels, AreCounts, AreDescending, product_of}
+use Rattle.ff_systems.specs.Places.{frame}
+use Rattle.ff_describe.specs.Levels.{offset, HasLevels, AreCounts, AreDescending, product_of}
 use Rattle.ff_describe.specs.Readings.{AreCut, IsLed, IsWrittenBy, AreZero, IsUnit}
 use Rattle.ff_describe.proofs.LevelSums.{linear_sum, poly_sum, written, relation-writes}
 use Rattle.ff_describe.proofs.LevelSums.{written-relation, linear-unit, linear-falling, spread}
@@ -84,7 +85,8 @@ module _ (K : Elements ℕ) (L : Lawful K) (f : List (List ℕ)) where
         → ((l : ℕ) → l < length counts → length (get_or c l []) ≤ get_or counts l 0)
         → sum_below (algebra_in L f) (length counts) (λ l. (algebra_in L f).mul
         (sum_below (algebra_in L f) (get_or counts l 0) (λ a. (algebra_in L f).mul
-        (constant_in L f (vector_of K (get_or c l []) a)) (power (algebra_in L f) (elem_of L f z) a)))
+        (constant_in L f (vector_of K (get_or c l []) a)) (power (algebra_in L f)
+        (elem_of L f z) a)))
         (elems_of L f b l))
         ≡ ring_value L f (frame e z b weights) c
     written-value c len short = sum-ext A AL (length counts) (λ l. A.mul

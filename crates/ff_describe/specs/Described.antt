@@ -12,9 +12,9 @@ use Rattle.ff_data.specs.declared.system.System.{System}
 use Rattle.ff_data.specs.Combinations.{AreElems}
 use Rattle.ff_data.specs.Systems.{AreCoords, HasForm, IsWithinWeight, IsExpression, ring_value}
 use Rattle.ff_data.specs.Systems.{weight_at, product_at, IsSystem}
-use Rattle.ff_systems.specs.Places.{IsPlace, HasLeastFunctions, WritesProducts}
+use Rattle.ff_systems.specs.Places.{frame, IsPlace, HasLeastFunctions, WritesProducts}
 use Rattle.ff_forms.specs.declared.functions.Functions.{Functions}
-use Rattle.ff_describe.specs.Levels.{frame, product_of}
+use Rattle.ff_describe.specs.Levels.{product_of}
 use Rattle.ff_describe.specs.Readings.{HasTriangleShape}
 
 -- the frame of least functions

@@ -1,11 +1,10 @@
 -- The elements z^a * b_l within a weight, class by class, for an equation f over a field whose laws
 -- are L. This project's own.
-use Rattle.std.specs.Prelude.{◌≡◌, ℕ, zero, suc, ◌+◌, ◌*◌, ◌<◌, ◌≤◌, ◌↔◌, List, [], length, get_or}
+use Rattle.std.specs.Prelude.{◌≡◌, ℕ, zero, suc, ◌+◌, ◌*◌, ◌<◌, ◌≤◌, ◌↔◌, List, length, get_or}
 use Rattle.ff_theory.specs.Ring.{Elements, power}
 use Rattle.ff_theory.specs.Lawful.{Lawful}
 use Rattle.ff_elem.specs.declared.elem.Elem.{Elem}
 use Rattle.ff_elem.specs.Elem.{algebra_in, elem_of}
-use Rattle.ff_data.specs.declared.system.System.{System}
 use Rattle.ff_data.specs.Combinations.{AreElems, elems_of}
 
 -- exactly the powers of z below n have, times an element of weight m, a weight within the bound
@@ -27,18 +26,6 @@ offset counts (suc m) = offset counts m + get_or counts m 0
 abbrev pub triangle : ℕ → ℕ
 triangle zero = 0
 triangle (suc m) = triangle m + suc m
-
--- a system with these functions, in which nothing is written
-abbrev pub frame : ℕ → Elem → List Elem → List ℕ → System
-frame e z b weights = record {
-  e = e;
-  z = z;
-  b = b;
-  weights = weights;
-  table = [];
-  x = record { q = []; c = [] };
-  y = record { q = []; c = [] };
-}
 
 module _ {F : Elements ℕ} (L : Lawful F) (f : List (List ℕ)) where
   -- z^a * w

@@ -8,7 +8,8 @@ ghost use Rattle.ff_elem.specs.Elem.{IsElem, elem_of};
 ghost use Rattle.ff_data.specs.declared.system.Coords.{Coords};
 ghost use Rattle.ff_data.specs.Combinations.{AreElems};
 ghost use Rattle.ff_data.specs.Systems.{IsExpression};
-ghost use Rattle.ff_describe.specs.Levels.{frame, offset, AreDescending};
+ghost use Rattle.ff_systems.specs.Places.{frame};
+ghost use Rattle.ff_describe.specs.Levels.{offset, AreDescending};
 ghost use Rattle.ff_describe.specs.Readings.{IsLed, AreZero, IsWrittenBy, IsWrittenIn};
 
 use crate::coordinates::{are_zero, coordinates, relations_of, reversed_poly};

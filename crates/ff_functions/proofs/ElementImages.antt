@@ -1,7 +1,7 @@
 -- The images of elements: a combination of them is in the target exactly where the combination of
 -- the elements is in the infinite order. For an equation f over a field whose laws are L.
-use Rattle.std.proofs.Common.{◌≡◌, ℕ, zero, suc, pred, ◌-◌, ◌*◌, ◌<◌, ◌≤◌, ◌⊎◌, inl, inr, ◌↔◌}
-use Rattle.std.proofs.Common.{List, [], ◌∷◌, length, refl, sym, ◌∙◌, ap, subst, arith}
+use Rattle.std.proofs.Common.{◌≡◌, ℕ, suc, pred, ◌-◌, ◌<◌, ◌≤◌, ◌⊎◌, inl, inr}
+use Rattle.std.proofs.Common.{List, length, refl, sym, ◌∙◌, ap, subst, arith}
 use Rattle.std.proofs.lemmas.Bool.{cases_lt}
 use Rattle.ff_theory.specs.Ring.{RingOps, IsCommRing, Elements, power}
 use Rattle.ff_theory.specs.Lawful.{Field, Lawful, lawful_field}
@@ -10,7 +10,7 @@ use Rattle.ff_theory.specs.Division.{size}
 use Rattle.ff_theory.specs.Monomial.{variable}
 use Rattle.ff_theory.specs.Planes.{planes, Plane}
 use Rattle.ff_theory.specs.Span.{combination}
-use Rattle.ff_theory.specs.Values.{poly_of, IsPlane}
+use Rattle.ff_theory.specs.Values.{IsPlane}
 use Rattle.ff_theory.specs.Vector.{vectors_of}
 use Rattle.ff_theory.proofs.Solver.{◌⊕◌, ◌⊗◌, neg, nil, unit, ring1, ring2, ring3}
 use Rattle.ff_theory.proofs.Sums.{sum-ext, sum-mul}
@@ -26,7 +26,7 @@ use Rattle.ff_data.specs.Lattices.{IsLattice, InLatticeOf}
 use Rattle.ff_data.specs.Combinations.{combination_in, constant_in}
 use Rattle.ff_data.proofs.ChartLaws.{algebra_laws, chart_laws}
 use Rattle.ff_data.proofs.PlaneCombinations.{planes_combined, combined_flat}
-use Rattle.ff_common.specs.Common.{IsImage, IsTimesSpace, HasVectorOver, IsOver}
+use Rattle.ff_common.specs.Common.{IsImage, IsTimesSpace, HasVectorOver}
 use Rattle.ff_common.proofs.BothCharts.{image_into, image_back}
 use Rattle.ff_common.proofs.CommonSpace.{residue_combined, power_is}
 use Rattle.ff_quotients.proofs.QuotientResidues.{variable_power_size}

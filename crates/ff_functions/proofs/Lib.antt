@@ -42,3 +42,17 @@ pub mod FrameLemmas
 pub mod FrameElements
 -- Lists of numerators, with one more
 pub mod FrameLists
+-- The functions that a relation says
+pub mod CombinedLemmas
+-- Lists of functions and of weights, with one more
+pub mod FunctionLists
+-- The elements of the powers that a search has passed
+pub mod PowerElements
+-- The orders that a search finds dependent
+pub mod SearchNumbers
+-- What a search decides
+pub mod ExactSearches
+-- What the outcome of a search says
+pub mod PlaceAnswers
+-- The least numbers of their classes
+pub mod LeastNumbers

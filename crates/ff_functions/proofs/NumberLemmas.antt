@@ -1,6 +1,6 @@
 -- The first pole numbers in their classes, with one order more.
-use Rattle.std.proofs.Common.{◌≡◌, ℕ, zero, suc, pred, ◌+◌, ◌%◌, ◌<◌, ◌≤◌, ◌⊎◌, inl, inr, List, []}
-use Rattle.std.proofs.Common.{◌∷◌, ◌++◌, length, get_or, refl, sym, ◌∙◌, ap, subst, arith, All}
+use Rattle.std.proofs.Common.{◌≡◌, ℕ, suc, pred, ◌+◌, ◌%◌, ◌<◌, ◌≤◌, ◌⊎◌, inl, inr, List, []}
+use Rattle.std.proofs.Common.{◌∷◌, ◌++◌, length, get_or, refl, sym, ◌∙◌, ap, subst, arith}
 use Rattle.std.proofs.Common.{Bool, true, false}
 use mathlib.Core.Bool.{beq}
 use Rattle.std.proofs.lemmas.Bool.{cases_lt}
@@ -15,13 +15,8 @@ use Rattle.ff_functions.specs.Rows.{IsImageBy}
 use Rattle.ff_data.specs.declared.system.System.{System}
 use Rattle.ff_functions.specs.Searches.{HasNumber, AgreesAt, HasClass, IsDependentAt}
 use Rattle.ff_functions.specs.Searches.{IsRelationAt, AreNumbers}
+use Rattle.ff_functions.proofs.SearchLemmas.{push_below}
 use Rattle.ff_functions.proofs.HeldImages.{relation_spans}
-
-push_same : (xs : List PoleNumber) (x d : PoleNumber) (i : ℕ) → i < length xs
-    → get_or (xs ++ x ∷ []) i d ≡ get_or xs i d
-push_same [] x d i l = absurd (omega (arith, l))
-push_same (y ∷ xs) x d zero l = refl
-push_same (y ∷ xs) x d (suc i) l = push_same xs x d i (omega (arith, l))
 
 class_more : (xs : List PoleNumber) (x : PoleNumber) (e i : ℕ) → HasClass xs e i
     → HasClass (xs ++ x ∷ []) e i
@@ -29,7 +24,7 @@ class_more xs x e i h = (
   h.0,
   (
     omega (arith, h.1.0, length_push xs x),
-    λ d. ap (λ (p : PoleNumber). p.j % e) (push_same xs x d h.0 h.1.0) ∙ h.1.1 d,
+    λ d. ap (λ (p : PoleNumber). p.j % e) (push_below xs x d h.0 h.1.0) ∙ h.1.1 d,
   ),
 )
 
@@ -120,14 +115,14 @@ module _ (F : Elements ℕ) (t : SpaceParts) (c : ℕ) (g : ℕ → ℕ → F.ca
         go : (0 < length numbers) ⊎ (length numbers ≤ 0) → ((0 < length numbers)
             × (get_or (numbers ++ p ∷ []) 0 d ≡ get_or numbers 0 d))
             ⊎ ((length numbers ≡ 0) × (get_or (numbers ++ p ∷ []) 0 d ≡ p))
-        go (inl q) = inl (q, push_same numbers p d 0 q)
+        go (inl q) = inl (q, push_below numbers p d 0 q)
         go (inr q) = let e : length numbers ≡ 0 = omega (arith, q) in
             inr (e, get_or_push numbers p d 0 e)
 
     first : (i : ℕ) → 0 < i → IsDependentAt F t c g i → (i ≤ pred j) ⊎ (i ≡ j) → (d : PoleNumber)
         → (get_or (numbers ++ p ∷ []) 0 d).j ≤ i
     first i q k (inl r) d = let a = h.first i q r k in
-        subst (λ (x : PoleNumber). x.j ≤ i) (sym (push_same numbers p d 0 a.0)) (a.1 d)
+        subst (λ (x : PoleNumber). x.j ≤ i) (sym (push_below numbers p d 0 a.0)) (a.1 d)
     first i q k (inr r) d = go (head d)
       where
         go : ((0 < length numbers) × (get_or (numbers ++ p ∷ []) 0 d ≡ get_or numbers 0 d))
@@ -142,7 +137,7 @@ module _ (F : Elements ℕ) (t : SpaceParts) (c : ℕ) (g : ℕ → ℕ → F.ca
         (i % (get_or (numbers ++ p ∷ []) 0 d).j)
     whole i q k (inl r) d = let a = h.first i q r k in
         subst (λ (x : PoleNumber). HasClass (numbers ++ p ∷ []) x.j (i % x.j))
-        (sym (push_same numbers p d 0 a.0))
+        (sym (push_below numbers p d 0 a.0))
         (class_more numbers p (get_or numbers 0 d).j (i % (get_or numbers 0 d).j)
         (h.whole i q r k d))
     whole i q k (inr r) d = subst (λ i. HasClass (numbers ++ p ∷ [])
@@ -155,24 +150,24 @@ module _ (F : Elements ℕ) (t : SpaceParts) (c : ℕ) (g : ℕ → ℕ → F.ca
         → (i ≤ pred j) ⊎ (i ≡ j) → (s < length numbers) ⊎ (length numbers ≤ s)
         → (get_or (numbers ++ p ∷ []) s d).j ≤ i
     least s i d l q k e (inl r) (inl m) = let a = h.first i q r k in
-        subst (λ (x : PoleNumber). x.j ≤ i) (sym (push_same numbers p d s m))
+        subst (λ (x : PoleNumber). x.j ≤ i) (sym (push_below numbers p d s m))
         (h.least s i d m q r k (sym (ap (λ (x : PoleNumber). i % x.j)
-        (push_same numbers p d 0 a.0)) ∙ e
+        (push_below numbers p d 0 a.0)) ∙ e
         ∙ ap (λ (x : PoleNumber). x.j % (get_or (numbers ++ p ∷ []) 0 d).j)
-        (push_same numbers p d s m)
-        ∙ ap (λ (x : PoleNumber). (get_or numbers s d).j % x.j) (push_same numbers p d 0 a.0)))
+        (push_below numbers p d s m)
+        ∙ ap (λ (x : PoleNumber). (get_or numbers s d).j % x.j) (push_below numbers p d 0 a.0)))
     least s i d l q k e (inl r) (inr m) =
         let a = h.first i q r k in
         let z : s ≡ length numbers = omega (arith, l, m, len) in
         let at = ap (λ s. get_or (numbers ++ p ∷ []) s d) z
         ∙ get_or_push numbers p d (length numbers) refl in
         absurd (none a.0 d (subst (HasClass numbers (get_or numbers 0 d).j)
-        (sym (ap (λ (x : PoleNumber). i % x.j) (push_same numbers p d 0 a.0)) ∙ e
+        (sym (ap (λ (x : PoleNumber). i % x.j) (push_below numbers p d 0 a.0)) ∙ e
         ∙ ap (λ (x : PoleNumber). x.j % (get_or (numbers ++ p ∷ []) 0 d).j) at
-        ∙ ap (λ (x : PoleNumber). p.j % x.j) (push_same numbers p d 0 a.0)
+        ∙ ap (λ (x : PoleNumber). p.j % x.j) (push_below numbers p d 0 a.0)
         ∙ ap (λ n. n % (get_or numbers 0 d).j) hp) (h.whole i q r k d)))
     least s i d l q k e (inr r) (inl m) = let w = within s d m in
-        subst (λ (x : PoleNumber). x.j ≤ i) (sym (push_same numbers p d s m))
+        subst (λ (x : PoleNumber). x.j ≤ i) (sym (push_below numbers p d s m))
         (omega (arith, w, r))
     least s i d l q k e (inr r) (inr m) =
         let z : s ≡ length numbers = omega (arith, l, m, len) in

@@ -1,6 +1,6 @@
 -- Rows that hold the images of numerators, with the next one.
-use Rattle.std.proofs.Common.{◌≡◌, ℕ, zero, suc, ◌+◌ as plus_ℕ, ◌*◌, ◌<◌, ◌≤◌, ◌⊎◌, inl, inr, List}
-use Rattle.std.proofs.Common.{[], ◌∷◌, map, length, get_or, refl, sym, ◌∙◌, ap, subst, arith}
+use Rattle.std.proofs.Common.{◌≡◌, ℕ, suc, ◌<◌, ◌≤◌, ◌⊎◌, inl, inr, List}
+use Rattle.std.proofs.Common.{[], length, get_or, sym, ◌∙◌, ap, subst, arith}
 use Rattle.std.proofs.Common.{Option, None, Some, Vec, Global}
 use Rattle.std.proofs.lemmas.Bool.{cases_lt}
 use Rattle.std.proofs.lemmas.List.{get_or-map}

@@ -1,12 +1,12 @@
 -- The elements that a search combines, at a point of the finite and at one of the infinite chart:
 -- an order is a pole number exactly where a combination with the power of that order, and those
 -- before it, is in the other order, or at infinity in the own one.
-use Rattle.std.proofs.Common.{◌≡◌, ℕ, zero, suc, pred, ◌+◌ as plus_ℕ, ◌<◌, ◌≤◌, List, length}
-use Rattle.std.proofs.Common.{refl, sym, ◌∙◌, ap, ap₂, subst, arith}
+use Rattle.std.proofs.Common.{◌≡◌, ℕ, suc, pred, ◌+◌ as plus_ℕ, ◌<◌, ◌≤◌, List, length}
+use Rattle.std.proofs.Common.{refl, sym, ◌∙◌, ap, subst}
 use Rattle.ff_theory.specs.Ring.{RingOps, IsCommRing, Elements}
-use Rattle.ff_theory.specs.Lawful.{Lawful, lawful_field}
+use Rattle.ff_theory.specs.Lawful.{Lawful}
 use Rattle.ff_theory.specs.Values.{IsPlane}
-use Rattle.ff_theory.proofs.Solver.{◌⊕◌, ◌⊗◌, neg, nil, unit, ring1, ring2, ring3}
+use Rattle.ff_theory.proofs.Solver.{◌⊕◌, ◌⊗◌, neg, unit, ring2}
 use Rattle.ff_theory.proofs.Sums.{sum-ext, sum-mul}
 use Rattle.ff_charts.specs.Chart.{IsChart}
 use Rattle.ff_elem.specs.Elem.{algebra_in}
@@ -14,7 +14,7 @@ use Rattle.ff_data.specs.declared.order.Chart.TheVariants.{Finite, Infinite}
 use Rattle.ff_data.specs.declared.order.Order.{Order}
 use Rattle.ff_data.specs.declared.point.Point.{Point}
 use Rattle.ff_data.specs.Orders.{chart_of, InOrder, IsMaximal}
-use Rattle.ff_data.specs.Poles.{HasPoleOf, IsPoleNumber}
+use Rattle.ff_data.specs.Poles.{IsPoleNumber}
 use Rattle.ff_data.specs.Combinations.{combination_in, constant_in}
 use Rattle.ff_data.proofs.ChartLaws.{algebra_laws, chart_laws}
 use Rattle.ff_frac.specs.Places.{IsMaximalPlace, HasPoleOrder}
@@ -62,11 +62,11 @@ module _ (F : Elements ℕ) (L : Lawful F) (f : List (List ℕ)) (hf : IsPlane F
           (combination_in L f (length s.numerators.items) first g)
           (combination_in L f (suc j) second (λ i. u (suc i))))
 
-    pub finite_number : other.chart ≡ Infinite
-        → AreFrameElements L f s o (pred (length other.d)) g
+    pub finite_number : other.chart ≡ Infinite → (n : ℕ) → pred (length other.d) ≤ n
+        → AreFrameElements L f s o n g
         → ((i : ℕ) → i < suc j → IsProper L f (u (suc i)))
         → IsPoleNumber L f o p other (suc j) → HasSumIn other
-    finite_number chart frame proper number = record {
+    finite_number chart n within frame proper number = record {
       first = b.0;
       second = t.coefficients;
       last = t.last;
@@ -85,8 +85,9 @@ module _ (F : Elements ℕ) (L : Lawful F) (f : List (List ℕ)) (hf : IsPlane F
 
         b : (d : ℕ → F.carrier) × (found.0 ≡ combination_in L f c d g)
         b = frame.spanning found.0 part t.rest (proper_sum F L f hf two (suc j) t.coefficients
-            (λ i. u (suc i)) proper) (subst (IsWithinReach L f (pred (length other.d))) t.sum
-            (order_reach F L f hf two other m.order chart t.value t.has.up_to.in_other))
+            (λ i. u (suc i)) proper) (subst (IsWithinReach L f n) t.sum
+            (reach_least F L f hf two (pred (length other.d)) n within t.value
+            (order_reach F L f hf two other m.order chart t.value t.has.up_to.in_other)))
 
     pub infinite_number : o.chart ≡ Infinite → (n : ℕ) → plus_ℕ (suc j) (pred (length o.d)) ≤ n
         → AreFrameElements L f s other n g → IsPoleNumber L f o p other (suc j) → HasSumIn o

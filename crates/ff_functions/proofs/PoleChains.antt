@@ -1,6 +1,6 @@
 -- Combinations of elements with poles of all orders at a point: which of them have a pole of the
 -- greatest order, and how an element with such a pole is one of them.
-use Rattle.std.proofs.Common.{◌≡◌, ℕ, zero, suc, ◌<◌, refl, sym, ◌∙◌, ap, subst, arith}
+use Rattle.std.proofs.Common.{◌≡◌, ℕ, suc, ◌<◌, refl, sym, ◌∙◌, ap, subst, arith}
 use Rattle.ff_theory.proofs.Solver.{◌⊕◌, ◌⊗◌, neg, nil, unit, ring1, ring4}
 use Rattle.ff_theory.proofs.Solver.{zero_mul, mul_zero}
 use Rattle.ff_theory.proofs.Sums.{sum-ext, sum-mul}
@@ -8,7 +8,7 @@ use Rattle.ff_local.specs.Point.{OrderAt, combined}
 use Rattle.ff_local.specs.Module.{InModule, IsLocalPair, IsBuilt}
 use Rattle.ff_local.proofs.Orders.{neg_one}
 use Rattle.ff_local.proofs.Combined.{combined_in}
-use Rattle.ff_local.proofs.Modules.{module_add, module_more, module_order, module_scale}
+use Rattle.ff_local.proofs.Modules.{module_add, module_more, module_scale}
 use Rattle.ff_local.proofs.Leading.{module_exact, module_built}
 use Rattle.ff_frac.proofs.PoleOrders.{IsAbove}
 

@@ -1,21 +1,20 @@
 -- An order is dependent exactly where it is a pole number: the images of the elements of a frame
 -- and of the powers, and the elements. For an equation f over a field whose laws are L.
-use Rattle.std.proofs.Common.{◌≡◌, ℕ, zero, suc, pred, ◌+◌ as plus_ℕ, ◌-◌, ◌<◌, ◌≤◌, ◌⊎◌, inl, inr}
+use Rattle.std.proofs.Common.{◌≡◌, ℕ, suc, pred, ◌+◌ as plus_ℕ, ◌-◌, ◌<◌, ◌≤◌, ◌⊎◌, inl, inr}
 use Rattle.std.proofs.Common.{List, length, refl, sym, ◌∙◌, ap, ap₂, subst, arith}
 use Rattle.std.proofs.lemmas.Bool.{cases_lt}
 use Rattle.ff_theory.specs.Ring.{RingOps, IsCommRing, Elements, power}
-use Rattle.ff_theory.specs.Lawful.{Lawful, lawful_field}
-use Rattle.ff_theory.specs.Sum.{sum_below}
+use Rattle.ff_theory.specs.Lawful.{Lawful}
 use Rattle.ff_theory.specs.Poly.{polynomials}
 use Rattle.ff_theory.specs.Monomial.{variable}
 use Rattle.ff_theory.specs.Span.{combination}
 use Rattle.ff_theory.specs.Values.{IsPlane}
 use Rattle.ff_theory.specs.Vector.{vectors_of}
-use Rattle.ff_theory.proofs.Solver.{◌⊕◌, ◌⊗◌, neg, nil, unit, ring1, ring2, ring3}
+use Rattle.ff_theory.proofs.Solver.{◌⊕◌, ◌⊗◌, neg, nil, unit, ring2}
 use Rattle.ff_theory.proofs.Sums.{sum-ext, sum-mul}
-use Rattle.ff_theory.proofs.Span.{span-same, span-more, span-zero}
+use Rattle.ff_theory.proofs.Span.{span-more, span-zero}
 use Rattle.ff_local.proofs.Joined.{joined, joined-below, joined-above, sum-split}
-use Rattle.ff_lin.specs.Space.{SpaceParts, InSpace}
+use Rattle.ff_lin.specs.Space.{SpaceParts}
 use Rattle.ff_elem.specs.Elem.{algebra_in}
 use Rattle.ff_data.specs.declared.order.Chart.TheVariants.{Infinite}
 use Rattle.ff_data.specs.Lattices.{IsLattice, InLatticeOf}
@@ -24,7 +23,7 @@ use Rattle.ff_data.proofs.ChartLaws.{algebra_laws}
 use Rattle.ff_common.specs.Common.{IsTimesSpace}
 use Rattle.ff_functions.specs.Images.{IsImageOf}
 use Rattle.ff_functions.specs.Rows.{IsImageBy, IsSpanned, put_last}
-use Rattle.ff_functions.proofs.RowLemmas.{put-below, put-at, combination-put}
+use Rattle.ff_functions.proofs.RowLemmas.{put-at, combination-put}
 use Rattle.ff_functions.proofs.HeldImages.{relation_spans}
 use Rattle.ff_functions.proofs.ElementImages.{relation_in_order, order_relation}
 

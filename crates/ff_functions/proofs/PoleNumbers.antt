@@ -1,14 +1,13 @@
 -- Pole numbers of a point of a maximal order: which combinations of given elements have a pole of
 -- given order there and no other, and that there is one where the order is a pole number. For an
 -- equation f over a field whose laws are L.
-use Rattle.std.proofs.Common.{◌≡◌, ℕ, zero, suc, pred, ◌+◌ as plus_ℕ, ◌<◌, ◌≤◌, List, length}
+use Rattle.std.proofs.Common.{◌≡◌, ℕ, suc, ◌<◌, List, length}
 use Rattle.std.proofs.Common.{refl, sym, ◌∙◌, ap, ap₂, subst, arith}
 use Rattle.ff_theory.specs.Ring.{RingOps, IsCommRing, Elements}
-use Rattle.ff_theory.specs.Lawful.{Lawful, lawful_field}
-use Rattle.ff_theory.specs.Sum.{sum_below}
+use Rattle.ff_theory.specs.Lawful.{Lawful}
 use Rattle.ff_theory.specs.Values.{IsPlane}
-use Rattle.ff_theory.proofs.Solver.{◌⊕◌, ◌⊗◌, neg, nil, unit, ring2, ring3}
-use Rattle.ff_theory.proofs.Sums.{sum-ext, sum-mul}
+use Rattle.ff_theory.proofs.Solver.{◌⊕◌, ◌⊗◌, nil, ring2}
+use Rattle.ff_theory.proofs.Sums.{sum-ext}
 use Rattle.ff_local.specs.Point.{OrderAt, combined}
 use Rattle.ff_elem.specs.Elem.{algebra_in}
 use Rattle.ff_data.specs.declared.order.Chart.{Chart}
@@ -16,14 +15,13 @@ use Rattle.ff_data.specs.declared.order.Chart.TheVariants.{Finite, Infinite}
 use Rattle.ff_data.specs.declared.order.Order.{Order}
 use Rattle.ff_data.specs.declared.point.Point.{Point}
 use Rattle.ff_data.specs.Orders.{chart_of, InOrder, IsMaximal}
-use Rattle.ff_data.specs.Poles.{InModule, HasPoleUpTo, HasPoleOf, IsPoleNumber}
+use Rattle.ff_data.specs.Poles.{HasPoleOf}
 use Rattle.ff_data.specs.Combinations.{combination_in, constant_in}
 use Rattle.ff_data.proofs.ChartLaws.{algebra_laws}
 use Rattle.ff_data.proofs.OrderLaws.{order-combination}
-use Rattle.ff_data.proofs.LocalMaximal.{maximal_closed}
 use Rattle.ff_frac.specs.Places.{IsMaximalPlace, HasPoleOrder}
 use Rattle.ff_frac.proofs.PoleOrders.{IsAbove}
-use Rattle.ff_frac.proofs.PlaceLemmas.{place, place_pair, place_into, place_back, above_into}
+use Rattle.ff_frac.proofs.PlaceLemmas.{place, place_pair, above_into}
 use Rattle.ff_frac.proofs.PlaceLemmas.{above_back}
 use Rattle.ff_functions.proofs.PoleChains.{IsChain, with_last, without_last}
 use Rattle.ff_functions.proofs.PoleChains.{scaled_above, chain}

@@ -1,6 +1,6 @@
 -- The image of a power is that of its element, for an equation f over a field whose laws are L.
-use Rattle.std.proofs.Common.{◌≡◌, ℕ, zero, suc, pred, ◌+◌ as plus_ℕ, ◌-◌, ◌<◌, ◌≤◌, List, length}
-use Rattle.std.proofs.Common.{refl, sym, ◌∙◌, ap, ap₂, subst, arith}
+use Rattle.std.proofs.Common.{◌≡◌, ℕ, suc, pred, ◌+◌ as plus_ℕ, ◌-◌, ◌<◌, ◌≤◌, List, length}
+use Rattle.std.proofs.Common.{refl, sym, ◌∙◌, ap, subst, arith}
 use Rattle.ff_theory.specs.Ring.{RingOps, IsCommRing, Elements, power}
 use Rattle.ff_theory.specs.Lawful.{Domain, Field, Lawful, lawful_field}
 use Rattle.ff_theory.specs.Map.{IsMap}
@@ -9,11 +9,11 @@ use Rattle.ff_theory.specs.Division.{size}
 use Rattle.ff_theory.specs.Monomial.{variable}
 use Rattle.ff_theory.specs.Planes.{planes, Plane, row_of}
 use Rattle.ff_theory.specs.Values.{poly_of, plane_of, IsPoly, IsPlane}
-use Rattle.ff_theory.proofs.Solver.{◌⊕◌, ◌⊗◌, nil, unit, ring2}
+use Rattle.ff_theory.proofs.Solver.{◌⊕◌, ◌⊗◌, nil, ring2}
 use Rattle.ff_theory.proofs.PolyMap.{polynomial_domain}
 use Rattle.ff_theory.proofs.Powers.{power-add}
-use Rattle.ff_charts.specs.Chart.{Chart as ChartOf, at_u, at_theta, IsChart, InPowers}
-use Rattle.ff_charts.specs.Lattice.{HasShape, flat, IsResidue}
+use Rattle.ff_charts.specs.Chart.{Chart as ChartOf, at_u, at_theta, IsChart}
+use Rattle.ff_charts.specs.Lattice.{HasShape, flat}
 use Rattle.ff_charts.proofs.Chart.{at_u_map, row_times, powers_zero}
 use Rattle.ff_charts.proofs.Flat.{flat_one}
 use Rattle.ff_charts.proofs.Lattice.{times_shape}
@@ -23,6 +23,7 @@ use Rattle.ff_elem.specs.Elem.{algebra_in}
 use Rattle.ff_data.specs.declared.order.Chart.{Chart}
 use Rattle.ff_data.specs.declared.order.Chart.TheVariants.{Finite, Infinite}
 use Rattle.ff_data.specs.declared.order.Order.{Order}
+use Rattle.ff_data.specs.declared.point.Point.{Point}
 use Rattle.ff_data.specs.Orders.{chart_of, y_degree}
 use Rattle.ff_data.proofs.ChartLaws.{algebra_laws, chart_laws, chart_degree}
 use Rattle.ff_common.specs.Common.{IsImage, IsOver, IsTimesVector}
@@ -118,11 +119,12 @@ module _ (F : Elements ℕ) (L : Lawful F) (f : List (List ℕ)) (hf : IsPlane F
           let p : pred (size F.ring (X_to l)) ≡ l = omega (arith, z) in p
 
   -- the image of a power
-  pub power_image : (o : Order) (h i : ℕ) (N : List (List ℕ)) (v : ℕ → F.carrier)
-      (k : IsPowerImage L f o h i N v) → pred (length k.powers.modulus) ≤ h
+  pub power_image : (o : Order) (p : Point) (h i : ℕ) (N : List (List ℕ)) (v : ℕ → F.carrier)
+      (k : IsPowerImage L f o p h i N v)
+      → (o.chart ≡ Infinite → pred (length k.powers.modulus) ≤ h)
       → (w : (algebra_in L f).carrier)
       → IsOverModulus L f o (poly_of F k.powers.modulus) k.powers.power w → IsImageOf L f h w v
-  power_image o h i N v k room w over = go o.chart refl
+  power_image o p h i N v k room w over = go o.chart refl
     where
       fraction : IsFraction L f o k.powers.modulus k.powers.power
       fraction = k.form.power
@@ -134,7 +136,7 @@ module _ (F : Elements ℕ) (L : Lawful F) (f : List (List ℕ)) (hf : IsPlane F
           (subst (λ N. IsImage L f k.powers.modulus (pred (length k.powers.modulus)) h
           (flat F.ring (pred (length k.powers.modulus)) (plane_of F N)) v) (sym k.numerator)
           (k.finite e))
-      go Infinite e = infinite_image l h room t.0 v w (subst (λ n. HasShape F.ring n l t.0)
+      go Infinite e = infinite_image l h (room e) t.0 v w (subst (λ n. HasShape F.ring n l t.0)
           (degree Finite ∙ sym (degree Infinite)) t.1.0)
           (ap (λ m. A.mul (at_u B m) w) (sym modulus)
           ∙ subst (λ c. A.mul (at_u (chart_of L f c) (poly_of F k.powers.modulus)) w

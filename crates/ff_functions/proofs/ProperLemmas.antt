@@ -1,15 +1,15 @@
 -- Proper fractions: sums and multiples by constants, for an equation f over a field whose laws
 -- are L.
-use Rattle.std.proofs.Common.{◌≡◌, ℕ, zero, suc, pred, ◌<◌, List, length, refl, sym, ◌∙◌, ap, ap₂}
-use Rattle.std.proofs.Common.{subst, arith, [], ◌∷◌}
+use Rattle.std.proofs.Common.{ℕ, zero, suc, pred, ◌<◌, List, length, refl, sym, ◌∙◌, ap, ap₂}
+use Rattle.std.proofs.Common.{subst, arith}
 use Rattle.ff_theory.specs.Ring.{RingOps, IsCommRing, Elements}
 use Rattle.ff_theory.specs.Lawful.{Domain, Field, Lawful, lawful_field}
 use Rattle.ff_theory.specs.Map.{IsMap}
-use Rattle.ff_theory.specs.Poly.{Poly, polynomials}
+use Rattle.ff_theory.specs.Poly.{polynomials}
 use Rattle.ff_theory.specs.Division.{size}
-use Rattle.ff_theory.specs.Planes.{planes, Plane, row_of}
+use Rattle.ff_theory.specs.Planes.{planes, row_of}
 use Rattle.ff_theory.specs.Values.{IsPlane}
-use Rattle.ff_theory.proofs.Solver.{◌⊕◌, ◌⊗◌, nil, unit, ring1, ring3, ring4, mul_zero}
+use Rattle.ff_theory.proofs.Solver.{◌⊕◌, ◌⊗◌, nil, ring3, ring4, mul_zero}
 use Rattle.ff_theory.proofs.PolyMap.{polynomial_domain}
 use Rattle.ff_charts.specs.Chart.{Chart as ChartOf, at_u, at_theta, IsChart}
 use Rattle.ff_charts.specs.Lattice.{HasShape}

@@ -1,6 +1,6 @@
 -- How far the elements of an order and of a pole module reach at infinity, for an equation f over a
 -- field whose laws are L.
-use Rattle.std.proofs.Common.{◌≡◌, ℕ, zero, suc, pred, ◌+◌ as plus_ℕ, ◌-◌, ◌<◌, ◌≤◌, List, length}
+use Rattle.std.proofs.Common.{◌≡◌, ℕ, pred, ◌+◌ as plus_ℕ, ◌-◌, ◌<◌, ◌≤◌, List, length}
 use Rattle.std.proofs.Common.{refl, sym, ◌∙◌, ap, ap₂, subst, arith, [], ◌∷◌}
 use Rattle.ff_theory.specs.Ring.{RingOps, IsCommRing, Elements, power}
 use Rattle.ff_theory.specs.Lawful.{Domain, Field, Lawful, lawful_field}
@@ -8,18 +8,17 @@ use Rattle.ff_theory.specs.Map.{IsMap}
 use Rattle.ff_theory.specs.Poly.{Poly, poly, polynomials}
 use Rattle.ff_theory.specs.Monomial.{variable}
 use Rattle.ff_theory.specs.Values.{poly_of, IsPlane}
-use Rattle.ff_theory.proofs.Solver.{◌⊕◌, ◌⊗◌, neg, nil, unit, ring1, ring3}
+use Rattle.ff_theory.proofs.Solver.{neg, nil, ring1}
 use Rattle.ff_theory.proofs.PolyMap.{polynomial_domain}
 use Rattle.ff_theory.proofs.Powers.{power-add}
-use Rattle.ff_charts.specs.Chart.{Chart as ChartOf, at_u, at_theta, IsChart, InPowers}
+use Rattle.ff_charts.specs.Chart.{Chart as ChartOf, at_u, IsChart, InPowers}
 use Rattle.ff_charts.proofs.Chart.{at_u_map, powers_add, powers_mul, powers_u, powers_plane}
 use Rattle.ff_charts.proofs.Chart.{powers_at}
 use Rattle.ff_local.specs.ChartOrder.{root_at}
 use Rattle.ff_local.proofs.ChartQuotient.{pole_clears}
 use Rattle.ff_lin.specs.Space.{SpaceParts}
 use Rattle.ff_elem.specs.Elem.{algebra_in}
-use Rattle.ff_data.specs.declared.order.Chart.{Chart}
-use Rattle.ff_data.specs.declared.order.Chart.TheVariants.{Finite, Infinite}
+use Rattle.ff_data.specs.declared.order.Chart.TheVariants.{Infinite}
 use Rattle.ff_data.specs.declared.order.Order.{Order}
 use Rattle.ff_data.specs.declared.point.Point.{Point}
 use Rattle.ff_data.specs.Orders.{chart_of, InOrder, IsOrder}

@@ -1,5 +1,5 @@
 -- A search with one power more: the images that its rows hold, and its pole numbers.
-use Rattle.std.proofs.Common.{◌≡◌, ℕ, zero, suc, pred, ◌+◌, ◌-◌, ◌%◌, ◌<◌, ◌≤◌, ◌⊎◌, inl, inr, List}
+use Rattle.std.proofs.Common.{◌≡◌, ℕ, suc, pred, ◌+◌, ◌-◌, ◌<◌, ◌≤◌, ◌⊎◌, inl, inr, List}
 use Rattle.std.proofs.Common.{[], ◌∷◌, ◌++◌, length, get_or, refl, sym, ◌∙◌, ap, subst, arith, All}
 use Rattle.std.proofs.Common.{Bool, Option, None, Some, Vec, Global}
 use Rattle.std.proofs.lemmas.Bool.{cases_lt}
@@ -8,32 +8,28 @@ use mathlib.Core.Path.{fun_ext}
 use Rattle.ff_theory.specs.Ring.{Elements}
 use Rattle.ff_theory.specs.Lawful.{Lawful}
 use Rattle.ff_theory.specs.Poly.{Poly}
-use Rattle.ff_theory.specs.Span.{unit_at, combination}
+use Rattle.ff_theory.specs.Span.{unit_at}
 use Rattle.ff_theory.specs.Values.{plane_of}
 use Rattle.ff_theory.specs.Vector.{vector_of}
 use Rattle.ff_theory.proofs.Sums.{sum-ext}
 use Rattle.ff_charts.specs.Lattice.{flat}
 use Rattle.ff_lin.specs.Space.{SpaceParts}
 use Rattle.ff_data.specs.declared.order.Order.{Order}
+use Rattle.ff_data.specs.declared.point.Point.{Point}
 use Rattle.ff_common.specs.Common.{IsImage, IsTimesVector}
-use Rattle.ff_functions.specs.declared.echelon.Row.{Row}
 use Rattle.ff_functions.specs.declared.frame.Frame.{Frame}
 use Rattle.ff_functions.specs.declared.numbers.PoleNumber.{PoleNumber}
 use Rattle.ff_functions.specs.declared.search.Search.{Search}
 use Rattle.ff_functions.specs.Images.{IsShortOver}
 use Rattle.ff_functions.specs.Rows.{IsInserted, put_last, IsImageBy, HoldImages, row_origins}
-use Rattle.ff_functions.specs.Searches.{AreRows, HasClass, IsNumber, IsDependentAt, IsRelationAt}
+use Rattle.ff_functions.specs.Searches.{AreRows, IsNumber, IsDependentAt}
 use Rattle.ff_functions.specs.Searches.{AreNumbers, IsVerdict, IsPowerImage, HoldSearch}
+use Rattle.ff_functions.specs.Searches.{IsPowerOf}
 use Rattle.ff_functions.specs.Searches.{HoldNumerators, IsBegun, HoldDecided, IsDecided}
+use Rattle.ff_functions.proofs.SearchLemmas.{push_below}
 use Rattle.ff_functions.proofs.RowLemmas.{put-below, put-at}
 use Rattle.ff_functions.proofs.HeldImages.{relation_image, relation_last, not_spanned}
 use Rattle.ff_functions.proofs.NumeratorImages.{hold_inserted, origins_end}
-
-plane_push : {A : Type 0} (xs : List A) (x d : A) (i : ℕ) → i < length xs
-    → get_or (xs ++ x ∷ []) i d ≡ get_or xs i d
-plane_push [] x d i l = absurd (omega (arith, l))
-plane_push (y ∷ xs) x d zero l = refl
-plane_push (y ∷ xs) x d (suc i) l = plane_push xs x d i (omega (arith, l))
 
 module _ (F : Elements ℕ) (L : Lawful F) where
   -- what is said of the vector of a plane
@@ -94,13 +90,14 @@ module _ (F : Elements ℕ) (L : Lawful F) where
       least = λ s j d l p q e. h.least s j d l p q (dependent_same j p q e);
     }
 
-  module _ (f : List (List ℕ)) (o : Order) (h c j len : ℕ) (positive : 0 < j) (t : SpaceParts)
-      (first : ℕ → ℕ → F.carrier) (s new : Search) (v u : ℕ → F.carrier)
+  module _ (f : List (List ℕ)) (o : Order) (p : Point) (h c j len : ℕ) (positive : 0 < j)
+      (t : SpaceParts) (first : ℕ → ℕ → F.carrier) (s new : Search) (v u : ℕ → F.carrier)
       (r : Option (Vec ℕ Global)) (N : List (List ℕ))
       (rows : AreRows F len (c + pred j) s.echelon.rows.items)
       (unit : (i : ℕ) → u i ≡ unit_at F.ring (c + pred j) i)
       (inserted : IsInserted F s.echelon.rows.items v u new.echelon.rows.items r)
       (passed : new.trail.passed.items ≡ s.trail.passed.items ++ N ∷ [])
+      (same : new.trail.powers ≡ s.trail.powers)
       (count : length s.trail.passed.items ≡ pred j)
       (few : All (IsNumber F c (pred j)) s.numbers.items)
       (numbers : (images : ℕ → ℕ → F.carrier) → IsVerdict F t c images j r
@@ -108,7 +105,9 @@ module _ (F : Elements ℕ) (L : Lawful F) where
       → AreNumbers F t c images j new.numbers.items) (b : Bool)
       (decided : (images : ℕ → ℕ → F.carrier) → IsVerdict F t c images j r
       → IsDecided F t c images j b)
-      (image : IsPowerImage L f o h j N v) (held : HoldSearch L f o h c (pred j) t first s) where
+      (more_few : All (IsNumber F c j) new.numbers.items)
+      (image : IsPowerImage L f o p h j N v)
+      (held : HoldSearch L f o p h c j (pred j) t first s) where
     n : ℕ
     n = c + pred j
 
@@ -138,37 +137,39 @@ module _ (F : Elements ℕ) (L : Lawful F) where
     }
 
     power : (i : ℕ) → i < j → (i < pred j) ⊎ (pred j ≤ i)
-        → IsPowerImage L f o h (i + 1) (get_or new.trail.passed.items i [])
+        → IsPowerImage L f o p h (i + 1) (get_or new.trail.passed.items i [])
         (put_last (c + pred j) held.images v (c + i))
-    power i l (inl q) = subst (IsPowerImage L f o h (i + 1) (get_or new.trail.passed.items i []))
+    power i l (inl q) = subst (IsPowerImage L f o p h (i + 1) (get_or new.trail.passed.items i []))
         (sym (put-below (c + pred j) held.images v (c + i) (omega (arith, q))))
-        (subst (λ N. IsPowerImage L f o h (i + 1) N (held.images (c + i)))
+        (subst (λ N. IsPowerImage L f o p h (i + 1) N (held.images (c + i)))
         (sym (ap (λ t. get_or t i []) passed
-        ∙ plane_push s.trail.passed.items N [] i (omega (arith, q, count)))) (held.powers i q))
+        ∙ push_below s.trail.passed.items N [] i (omega (arith, q, count)))) (held.powers i q))
     power i l (inr q) =
         let e : i ≡ pred j = omega (arith, l, q) in
         let k : i + 1 ≡ j = omega (arith, l, q) in
-        subst (IsPowerImage L f o h (i + 1) (get_or new.trail.passed.items i []))
+        subst (IsPowerImage L f o p h (i + 1) (get_or new.trail.passed.items i []))
         (sym (ap (λ i. put_last (c + pred j) held.images v (c + i)) e
         ∙ put-at (c + pred j) held.images v))
-        (subst (λ N. IsPowerImage L f o h (i + 1) N v)
+        (subst (λ N. IsPowerImage L f o p h (i + 1) N v)
         (sym (ap (λ t. get_or t i []) passed
         ∙ get_or_push s.trail.passed.items N [] i (count ∙ sym e)))
-        (subst (λ k. IsPowerImage L f o h k N v) (sym k) image))
+        (subst (λ k. IsPowerImage L f o p h k N v) (sym k) image))
 
-    more : HoldSearch L f o h c j t first new
+    more : HoldSearch L f o p h c j j t first new
     more = record {
+      power = subst (IsPowerOf L f o p j) (sym same) held.power;
       images = put_last (c + pred j) held.images v;
       before = λ l q. put-below (c + pred j) held.images v l (omega (arith, q)) ∙ held.before l q;
       powers = λ i l. power i l (cases_lt i (pred j));
       hold = hold_inserted F L t len (c + pred j) (c + j) held.images v u s.echelon.rows.items
           new.echelon.rows.items r next rows unit inserted held.hold;
+      form = more_few;
       numbers = numbers (put_last (c + pred j) held.images v) (verdict r inserted)
           (numbers_same t c (pred j) held.images (put_last (c + pred j) held.images v)
           (λ l q. put-below (c + pred j) held.images v l q) s.numbers.items few held.numbers);
     }
 
-    pub search_more : HoldDecided L f o h c j t first new b
+    pub search_more : HoldDecided L f o p h c j t first new b
     unfolding more
     search_more = record {
       held = more;
@@ -176,17 +177,20 @@ module _ (F : Elements ℕ) (L : Lawful F) where
     }
 
   -- before the first power
-  pub search_begun : (f : List (List ℕ)) (o : Order) (s : Frame) (d : List ℕ) (infinite : Order)
-      (r : Search) → HoldNumerators L f s d infinite (length s.numerators.items)
-      r.echelon.rows.items → length r.numbers.items ≡ 0 → IsBegun L f o s d infinite r
-  search_begun f o s d infinite r h none = record {
+  pub search_begun : (f : List (List ℕ)) (o : Order) (p : Point) (s : Frame) (d : List ℕ)
+      (infinite : Order) (r : Search) → HoldNumerators L f s d infinite
+      (length s.numerators.items) r.echelon.rows.items → length r.numbers.items ≡ 0
+      → IsPowerOf L f o p 1 r.trail.powers → IsBegun L f o p s d infinite r
+  search_begun f o p s d infinite r h none power = record {
     rows = h;
     search = record {
+      power = power;
       images = h.images;
       before = λ l q. refl;
       powers = λ i l. absurd (omega (arith, l));
       hold = let e : length s.numerators.items ≡ length s.numerators.items + 0 = omega arith in
           subst (λ n. HoldImages F h.target n h.images r.echelon.rows.items) e h.hold;
+      form = λ i d l. absurd (omega (arith, l, none));
       numbers = record {
         each = λ i d l. absurd (omega (arith, l, none));
         first = λ j p q. absurd (omega (arith, p, q));

@@ -1,5 +1,6 @@
 -- Rows of a search and its pole numbers, under greater bounds.
-use Rattle.std.proofs.Common.{◌≡◌, ℕ, ◌+◌, ◌*◌, ◌<◌, ◌≤◌, List, length, subst, arith, All}
+use Rattle.std.proofs.Common.{◌≡◌, ℕ, zero, suc, ◌+◌, ◌*◌, ◌<◌, ◌≤◌, List, [], ◌∷◌, ◌++◌}
+use Rattle.std.proofs.Common.{length, get_or, refl, subst, arith, All}
 use Rattle.std.proofs.Math.Nat.{mul-le-mul_right}
 use Rattle.ff_theory.specs.Ring.{Elements}
 use Rattle.ff_theory.specs.Lawful.{Lawful}
@@ -9,6 +10,13 @@ use Rattle.ff_functions.specs.declared.echelon.Row.{Row}
 use Rattle.ff_functions.specs.declared.numbers.PoleNumber.{PoleNumber}
 use Rattle.ff_functions.specs.declared.search.Search.{Search}
 use Rattle.ff_functions.specs.Searches.{AreRows, IsNumber, IsComplete, HasSearchForm}
+
+-- the entries before the last one
+pub push_below : {A : Type 0} (xs : List A) (x d : A) (i : ℕ) → i < length xs
+    → get_or (xs ++ x ∷ []) i d ≡ get_or xs i d
+push_below [] x d i l = absurd (omega (arith, l))
+push_below (y ∷ xs) x d zero l = refl
+push_below (y ∷ xs) x d (suc i) l = push_below xs x d i (omega (arith, l))
 
 -- a row of n has room for l entries
 pub row_room : (i n l : ℕ) → i < n → i * l + l ≤ n * l

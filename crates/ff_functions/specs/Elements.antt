@@ -68,6 +68,12 @@ module _ {F : Elements ℕ} (L : Lawful F) (f : List (List ℕ)) where
         × IsTimesVector L f (power (polynomials F.ring) (variable F.ring) 0) short l
         (vectors_of F vectors i) (vectors_of F rows t))
 
+  -- where the old vectors are those of all multiples of some d up to some order, the new ones are
+  -- the numerators with a list of vectors
+  abbrev pub AddsVectors : (short l : ℕ) (vectors old new : List (List ℕ)) → Type 0
+  AddsVectors short l vectors old new = (d : List ℕ) (m : ℕ) → HoldMultiples F d l
+      (y_degree L f) m (slope_of L f) (y_degree L f) 0 old → AreNumerators d m short l vectors new
+
   -- w has a numerator over a polynomial in x, with rows that are shorter
   pub record IsProper (w : (algebra_in L f).carrier) : Type 0 where
     pub modulus : Poly F.ring

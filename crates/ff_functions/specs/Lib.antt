@@ -6,5 +6,7 @@ pub mod Images
 pub mod Elements
 -- The forms of what a search for functions holds
 pub mod Searches
+-- The functions that a relation says
+pub mod Combined
 -- The functions that a search found
 pub mod Answers

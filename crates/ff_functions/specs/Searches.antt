@@ -14,12 +14,14 @@ use Rattle.ff_charts.specs.Lattice.{flat}
 use Rattle.ff_lin.specs.Space.{SpaceParts, AreVectors, rows_of}
 use Rattle.ff_data.specs.declared.order.Chart.TheVariants.{Finite, Infinite}
 use Rattle.ff_data.specs.declared.order.Order.{Order}
+use Rattle.ff_data.specs.declared.point.Point.{Point}
 use Rattle.ff_data.specs.declared.system.System.{System}
 use Rattle.ff_data.specs.Orders.{y_degree, slope_of}
 use Rattle.ff_data.specs.Vectors.{IsPlaneWithin}
 use Rattle.ff_common.specs.Common.{IsImage, IsTimesSpace, IsTimesVector}
 use Rattle.ff_frac.specs.declared.powers.Powers.{Powers}
-use Rattle.ff_frac.specs.Powers.{HasPowersForm}
+use Rattle.ff_frac.specs.Places.{IsMaximalPlace}
+use Rattle.ff_frac.specs.Powers.{HasPowersForm, IsPowerAt}
 use Rattle.ff_functions.specs.Rows.{AreStepped, HoldImages, IsImageBy, IsSpanned}
 use Rattle.ff_functions.specs.Images.{IsShortOver}
 use Rattle.ff_functions.specs.declared.echelon.Row.{Row}
@@ -145,11 +147,17 @@ module _ {F : Elements ℕ} (L : Lawful F) (f : List (List ℕ)) where
     pub trail : HasTrailForm o i m s.trail
     pub numbers : All (IsNumber F c m) s.numbers.items
 
-  -- v is the image of power i, with the numerator N: the vector of t^h times the power modulo t^h
-  pub record IsPowerImage (o : Order) (h i : ℕ) (N : List (List ℕ)) (v : ℕ → F.carrier)
-      : Type 0 where
+  -- the data are those of power i at p, where p is a point of a maximal order
+  abbrev pub IsPowerOf : Order → Point → ℕ → Powers → Type 0
+  IsPowerOf o p i s = IsMaximalPlace L f o p → IsPowerAt L f o p i s
+
+  -- v is the image of power i at p, with the numerator N: the vector of t^h times the power modulo
+  -- t^h
+  pub record IsPowerImage (o : Order) (p : Point) (h i : ℕ) (N : List (List ℕ))
+      (v : ℕ → F.carrier) : Type 0 where
     pub powers : Powers
     pub form : HasPowersForm L f o i powers
+    pub exact : IsPowerOf o p i powers
     pub numerator : powers.power ≡ N
     pub finite : o.chart ≡ Finite
         → IsImage L f powers.modulus (pred (length powers.modulus)) h
@@ -159,14 +167,17 @@ module _ {F : Elements ℕ} (L : Lawful F) (f : List (List ℕ)) where
         (pred (length powers.modulus)) h
         (flat F.ring (pred (length powers.modulus)) (plane_of F N)) v
 
-  -- rows that hold the first c images of a family and those of m powers, and their pole numbers
-  pub record HoldSearch (o : Order) (h c m : ℕ) (t : SpaceParts) (first : ℕ → ℕ → F.carrier)
-      (s : Search) : Type 0 where
+  -- rows that hold the first c images of a family and those of m powers at p, and their pole
+  -- numbers, with the data of power n
+  pub record HoldSearch (o : Order) (p : Point) (h c n m : ℕ) (t : SpaceParts)
+      (first : ℕ → ℕ → F.carrier) (s : Search) : Type 0 where
+    pub power : IsPowerOf o p n s.trail.powers
     pub images : ℕ → ℕ → F.carrier
     pub before : (l : ℕ) → l < c → images l ≡ first l
     pub powers : (i : ℕ) → i < m
-        → IsPowerImage o h (i + 1) (get_or s.trail.passed.items i []) (images (c + i))
+        → IsPowerImage o p h (i + 1) (get_or s.trail.passed.items i []) (images (c + i))
     pub hold : HoldImages F t (c + m) images s.echelon.rows.items
+    pub form : All (IsNumber F c m) s.numbers.items
     pub numbers : AreNumbers F t c images m s.numbers.items
 
   -- a search whose pole numbers are complete, after as many orders as it has powers
@@ -183,50 +194,50 @@ module _ {F : Elements ℕ} (L : Lawful F) (f : List (List ℕ)) where
   IsOutcome o c Short = Unit {0}
 
   -- such a search, and whether its last order is dependent
-  pub record HoldDecided (o : Order) (h c m : ℕ) (t : SpaceParts) (first : ℕ → ℕ → F.carrier)
-      (s : Search) (b : Bool) : Type 0 where
-    pub held : HoldSearch o h c m t first s
+  pub record HoldDecided (o : Order) (p : Point) (h c m : ℕ) (t : SpaceParts)
+      (first : ℕ → ℕ → F.carrier) (s : Search) (b : Bool) : Type 0 where
+    pub held : HoldSearch o p h c m m t first s
     pub decided : IsDecided F t c held.images m b
 
   -- a search up to some order that is dependent where it should not be, or the other way round
-  pub record HasUnlike (o : Order) (h c bound : ℕ) (t : SpaceParts) (first : ℕ → ℕ → F.carrier)
-      (agrees : ℕ → Bool → Type 0) : Type 0 where
+  pub record HasUnlike (o : Order) (p : Point) (h c bound : ℕ) (t : SpaceParts)
+      (first : ℕ → ℕ → F.carrier) (agrees : ℕ → Bool → Type 0) : Type 0 where
     pub m : ℕ
     pub positive : 0 < m
     pub within : m ≤ bound
     pub search : Search
     pub is_number : Bool
-    pub held : HoldDecided o h c m t first search is_number
+    pub held : HoldDecided o p h c m t first search is_number
     pub unlike : ¬ agrees m is_number
 
-  -- What a search up to a bound came to, whose rows held the first images: a search up to some
+  -- What a search at p up to a bound came to, whose rows held the first images: a search up to some
   -- order; one that is not like the given system; or one up to the bound that is not complete.
-  abbrev pub HoldsOutcome : Order → (h c bound : ℕ) → SpaceParts → (ℕ → ℕ → F.carrier)
-      → (ℕ → Bool → Type 0) → Outcome → Type 0
-  HoldsOutcome o h c bound t first agrees (Complete s) = (m : ℕ)
-      × ((m ≤ bound) × HoldSearch o h c m t first s)
-  HoldsOutcome o h c bound t first agrees Differs = HasUnlike o h c bound t first agrees
-  HoldsOutcome o h c bound t first agrees Short = (s : Search)
-      × (HoldSearch o h c bound t first s × ¬ IsComplete s.numbers.items)
+  abbrev pub HoldsOutcome : Order → Point → (h c bound : ℕ) → SpaceParts
+      → (ℕ → ℕ → F.carrier) → (ℕ → Bool → Type 0) → Outcome → Type 0
+  HoldsOutcome o p h c bound t first agrees (Complete s) = (m : ℕ)
+      × ((m ≤ bound) × HoldSearch o p h c m m t first s)
+  HoldsOutcome o p h c bound t first agrees Differs = HasUnlike o p h c bound t first agrees
+  HoldsOutcome o p h c bound t first agrees Short = (s : Search)
+      × (HoldSearch o p h c (bound + 1) bound t first s × ¬ IsComplete s.numbers.items)
 
   -- Whatever images the rows of s hold:
-  -- those of r hold that of power j too, and b says whether its order is dependent
-  abbrev pub IsLook : Order → (h c j : ℕ) → (s r : Search) → Bool → Type 0
-  IsLook o h c j s r b = (t : SpaceParts) (first : ℕ → ℕ → F.carrier)
-      → HoldSearch o h c (pred j) t first s → HoldDecided o h c j t first r b
+  -- those of r hold that of power j at p too, and b says whether its order is dependent
+  abbrev pub IsLook : Order → Point → (h c j : ℕ) → (s r : Search) → Bool → Type 0
+  IsLook o p h c j s r b = (t : SpaceParts) (first : ℕ → ℕ → F.carrier)
+      → HoldSearch o p h c j (pred j) t first s → HoldDecided o p h c j t first r b
 
-  -- r holds them, up to power j
+  -- r holds them, up to power j, with the data of the next one
   abbrev pub Keeps : Order → (h c j : ℕ) → (s r : Search) → Type 0
-  Keeps o h c j s r = (t : SpaceParts) (first : ℕ → ℕ → F.carrier)
-      → HoldSearch o h c j t first s → HoldSearch o h c j t first r
+  Keeps o h c j s r = (p : Point) (t : SpaceParts) (first : ℕ → ℕ → F.carrier)
+      → HoldSearch o p h c j j t first s → HoldSearch o p h c (j + 1) j t first r
 
   -- r is what the search from s on came to
   abbrev pub Ends : Order → (h c bound : ℕ) → (ℕ → Bool → Type 0) → Search → Outcome → Type 0
-  Ends o h c bound agrees s r = (t : SpaceParts) (first : ℕ → ℕ → F.carrier)
-      → HoldSearch o h c 0 t first s → HoldsOutcome o h c bound t first agrees r
+  Ends o h c bound agrees s r = (p : Point) (t : SpaceParts) (first : ℕ → ℕ → F.carrier)
+      → HoldSearch o p h c 1 0 t first s → HoldsOutcome o p h c bound t first agrees r
 
   -- a search before the first power, whose rows hold the images of all numerators over d
-  pub record IsBegun (o : Order) (s : Frame) (d : List ℕ) (infinite : Order) (r : Search) : Type 0
-    where
-      pub rows : HoldNumerators s d infinite (length s.numerators.items) r.echelon.rows.items
-      pub search : HoldSearch o s.h (length s.numerators.items) 0 rows.target rows.images r
+  pub record IsBegun (o : Order) (p : Point) (s : Frame) (d : List ℕ) (infinite : Order)
+      (r : Search) : Type 0 where
+    pub rows : HoldNumerators s d infinite (length s.numerators.items) r.echelon.rows.items
+    pub search : HoldSearch o p s.h (length s.numerators.items) 1 0 rows.target rows.images r

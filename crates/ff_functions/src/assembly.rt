@@ -1,10 +1,10 @@
 // The functions of the pole numbers that were found.
-ghost use Rattle.std.specs.Prelude.{◌≡◌, ℕ, ◌+◌, ◌*◌, ◌<◌, ◌≤◌, length, IfOk};
+ghost use Rattle.std.specs.Prelude.{◌≡◌, ℕ, ◌+◌, ◌*◌, ◌<◌, ◌≤◌, length, get_or, IfOk};
 ghost use Rattle.std.specs.List.{All};
-ghost use Rattle.ff_theory.specs.Ring.{IsElement};
-ghost use Rattle.ff_theory.specs.Values.{IsPoly, IsPlane};
-ghost use Rattle.ff_theory.specs.Vector.{IsVector};
-ghost use Rattle.ff_elem.specs.Elem.{IsElem};
+ghost use Rattle.ff_theory.specs.Ring.{IsElement, power};
+ghost use Rattle.ff_theory.specs.Values.{IsPoly, poly_of, polys_over, plane_of};
+ghost use Rattle.ff_theory.specs.Vector.{vector_of, IsVector};
+ghost use Rattle.ff_elem.specs.Elem.{algebra_in, elem_of, IsElem};
 ghost use Rattle.ff_data.specs.declared.order.Chart.TheVariants.{Finite};
 ghost use Rattle.ff_data.specs.Orders.{y_degree, IsOrder};
 ghost use Rattle.ff_data.specs.Vectors.{IsPlaneWithin};
@@ -13,6 +13,10 @@ ghost use Rattle.ff_forms.specs.Forms.{HasFunctionsForm};
 ghost use Rattle.ff_forms.specs.declared.functions.TheConstants.{POLE_LIMIT};
 ghost use Rattle.ff_functions.specs.Searches.{HasFrameForm, HasTrailForm, IsNumber, HasClass};
 ghost use Rattle.ff_functions.specs.Searches.{HasFound};
+ghost use Rattle.ff_functions.specs.Combined.{IsBaseVector, IsPlaneSum, IsWithPowers, IsBasePlane};
+ghost use Rattle.ff_functions.specs.Combined.{IsFiniteFunction, IsInfiniteFunction, IsFunctionOf};
+ghost use Rattle.ff_functions.specs.Combined.{AreClassFunctions, AreClassWeights};
+ghost use Rattle.ff_functions.specs.Combined.{HasNextFunction, AreAssembled};
 
 use crate::frame::Frame;
 use crate::numbers::{PoleNumber, class_index};
@@ -36,8 +40,11 @@ fn base<K: FiniteField<E = u32>>(
     requires frame { HasFrameForm (K.lawful alg.now.k) alg.now.f frame.now }
     requires coefficients { let c = length frame.now.numerators.items in
         IsVector (K.elements alg.now.k) c coefficients.now }
-    ensures { let L = K.lawful alg.now.k in let n = y_degree L alg.now.f in
+    ensures vector { let L = K.lawful alg.now.k in let n = y_degree L alg.now.f in
         IfOk result (λ r. IsVector (K.elements alg.now.k) (n * frame.now.l) r.items) }
+    ensures value { let L = K.lawful alg.now.k in let F = K.elements alg.now.k in
+        IfOk result (λ r. IsBaseVector L alg.now.f frame.now (vector_of F coefficients.now)
+        (vector_of F r.items)) }
 {
     match (alg.f.rows().len() - 1).checked_mul(frame.l) {
         Some(len) => combination(alloc, &alg.k, len, coefficients, &frame.numerators),
@@ -60,8 +67,11 @@ fn sum<K: FiniteField<E = u32>>(
     requires c { IsElement (K.elements alg.now.k) c }
     requires b { let F = K.elements alg.now.k in let L = K.lawful alg.now.k in
         IsPlaneWithin F (y_degree L alg.now.f) b.now }
-    ensures { let F = K.elements alg.now.k in let L = K.lawful alg.now.k in
+    ensures plane { let F = K.elements alg.now.k in let L = K.lawful alg.now.k in
         IfOk result (IsPlaneWithin F (y_degree L alg.now.f)) }
+    ensures value { let F = K.elements alg.now.k in let L = K.lawful alg.now.k in
+        IfOk result (IsPlaneSum L alg.now.f (poly_of F factor.now) (plane_of F a.now) (F.value c)
+        (plane_of F b.now)) }
 {
     let c = Poly::from_coeffs(alloc, &alg.k, &[c])?;
     let list = rows::combination(alloc, &alg.k, factor, a.rows(), &c, 0, b.rows())?;
@@ -85,8 +95,11 @@ fn with_powers<K: FiniteField<E = u32>>(
     requires powers { let F = K.elements alg.now.k in let L = K.lawful alg.now.k in
         All (IsPlaneWithin F (y_degree L alg.now.f)) powers.now }
     requires enough { length coefficients.now ≤ length powers.now }
-    ensures { let F = K.elements alg.now.k in let L = K.lawful alg.now.k in
+    ensures plane { let F = K.elements alg.now.k in let L = K.lawful alg.now.k in
         IfOk result (IsPlaneWithin F (y_degree L alg.now.f)) }
+    ensures value { let F = K.elements alg.now.k in let L = K.lawful alg.now.k in
+        let n = length coefficients.now in IfOk result (IsWithPowers L alg.now.f root.now base
+        powers.now n (vector_of F coefficients.now)) }
 {
     let mut numerator = base;
     for i in 0..coefficients.len() {
@@ -109,6 +122,8 @@ fn denominator<K: FiniteField<E = u32>>(
     requires root_nonzero { 0 < length root.now }
     ensures poly { IfOk result (IsPoly (K.elements alg.now.k)) }
     ensures nonzero { IfOk result (λ r. 0 < length r) }
+    ensures value { let F = K.elements alg.now.k in let P = polys_over F in IfOk result (λ r.
+        poly_of F r ≡ P.mul (poly_of F d.now) (power P (poly_of F root.now) j)) }
 {
     let power = root.power(alloc, &alg.k, j)?;
     d.mul(alloc, &alg.k, &power)
@@ -124,8 +139,10 @@ fn base_plane<K: FiniteField<E = u32>>(
     requires frame { HasFrameForm (K.lawful alg.now.k) alg.now.f frame.now }
     requires coefficients { let c = length frame.now.numerators.items in
         IsVector (K.elements alg.now.k) c coefficients.now }
-    ensures { let F = K.elements alg.now.k in let L = K.lawful alg.now.k in
+    ensures plane { let F = K.elements alg.now.k in let L = K.lawful alg.now.k in
         IfOk result (IsPlaneWithin F (y_degree L alg.now.f)) }
+    ensures value { let L = K.lawful alg.now.k in let F = K.elements alg.now.k in
+        IfOk result (IsBasePlane L alg.now.f frame.now (vector_of F coefficients.now)) }
 {
     let v = base(alloc, alg, frame, coefficients)?;
     let plane = plane_of_vector(alloc, &alg.k, &v, alg.f.rows().len() - 1, frame.l)?;
@@ -147,7 +164,9 @@ fn finite_function<K: FiniteField<E = u32>>(
         HasTrailForm L alg.now.f finite.now m m trail.now }
     requires number { IsNumber (K.elements alg.now.k) (length frame.now.numerators.items)
         (length trail.now.passed.items) number.now }
-    ensures { IfOk result (IsElem (K.lawful alg.now.k) alg.now.f) }
+    ensures elem { IfOk result (IsElem (K.lawful alg.now.k) alg.now.f) }
+    ensures value { let L = K.lawful alg.now.k in IfOk result (IsFiniteFunction L alg.now.f
+        finite.now.d frame.now trail.now number.now) }
 {
     let c = frame.numerators.len();
     let root = &trail.powers.root;
@@ -170,7 +189,9 @@ fn infinite_function<K: FiniteField<E = u32>>(
     requires frame { HasFrameForm (K.lawful alg.now.k) alg.now.f frame.now }
     requires number { let c = length frame.now.numerators.items in
         IsVector (K.elements alg.now.k) (c + number.now.j) number.now.relation.items }
-    ensures { IfOk result (IsElem (K.lawful alg.now.k) alg.now.f) }
+    ensures elem { IfOk result (IsElem (K.lawful alg.now.k) alg.now.f) }
+    ensures value { let L = K.lawful alg.now.k in IfOk result (IsInfiniteFunction L alg.now.f
+        finite.now.d frame.now number.now) }
 {
     let head = &number.relation[..frame.numerators.len()];
     let v = base(alloc, alg, frame, head)?;
@@ -194,7 +215,9 @@ fn function<K: FiniteField<E = u32>>(
         HasTrailForm L alg.now.f order.now m m trail.now }
     requires number { IsNumber (K.elements alg.now.k) (length frame.now.numerators.items)
         (length trail.now.passed.items) number.now }
-    ensures { IfOk result (IsElem (K.lawful alg.now.k) alg.now.f) }
+    ensures elem { IfOk result (IsElem (K.lawful alg.now.k) alg.now.f) }
+    ensures value { let L = K.lawful alg.now.k in let chart = order.now.chart in IfOk result
+        (IsFunctionOf L alg.now.f chart finite.now.d frame.now trail.now number.now) }
 {
     match order.chart {
         Chart::Finite => finite_function(alloc, alg, finite, frame, trail, number),
@@ -224,6 +247,9 @@ fn with_function<K: FiniteField<E = u32>>(
     requires list { AreElems (K.lawful alg.now.k) alg.now.f list.items }
     ensures elems { IfOk result (λ r. AreElems (K.lawful alg.now.k) alg.now.f r.items) }
     ensures count { IfOk result (λ r. length r.items ≡ length list.items + 1) }
+    ensures grown { let L = K.lawful alg.now.k in let chart = order.now.chart in IfOk result
+        (λ r. HasNextFunction L alg.now.f chart finite.now.d frame.now search.now e i list.items
+        r.items) }
 {
     let number = &search.numbers[class_index(&search.numbers, e, i)];
     let function = function(alloc, alg, order, finite, frame, &search.trail, number)?;
@@ -236,6 +262,8 @@ fn with_function<K: FiniteField<E = u32>>(
 fn one_alone<K: FiniteField<E = u32>>(alloc: Global, alg: &Alg<K>) -> Result<Vec<Elem>, NoMemory>
     ensures elems { IfOk result (λ r. AreElems (K.lawful alg.now.k) alg.now.f r.items) }
     ensures count { IfOk result (λ r. length r.items ≡ 1) }
+    ensures one { let L = K.lawful alg.now.k in IfOk result (λ r. (a : Elem) →
+        elem_of L alg.now.f (get_or r.items 0 a) ≡ (algebra_in L alg.now.f).one) }
 {
     let one = alg.one(alloc)?;
     let mut list = Vec::new(alloc);
@@ -262,6 +290,8 @@ fn basis<K: FiniteField<E = u32>>(
     requires classes { (i : ℕ) → i < e → HasClass search.now.numbers.items e i }
     ensures elems { IfOk result (λ r. AreElems (K.lawful alg.now.k) alg.now.f r.items) }
     ensures count { IfOk result (λ r. length r.items ≡ e) }
+    ensures functions { let L = K.lawful alg.now.k in let chart = order.now.chart in IfOk result
+        (λ r. AreClassFunctions L alg.now.f chart finite.now.d frame.now search.now e e r.items) }
 {
     let mut list = one_alone(alloc, alg)?;
     for i in 1..e {
@@ -277,6 +307,7 @@ fn weights(alloc: Global, numbers: &[PoleNumber], e: u32) -> Result<Vec<u32>, No
     requires classes { (i : ℕ) → i < e → HasClass numbers.now e i }
     ensures count { IfOk result (λ r. length r.items ≡ e) }
     ensures within { IfOk result (λ r. All (λ m. m ≤ POLE_LIMIT) r.items) }
+    ensures weights { IfOk result (λ r. AreClassWeights numbers.now e e r.items) }
 {
     let mut list = Vec::new(alloc);
     list.push(0)?;
@@ -300,7 +331,9 @@ pub(crate) fn assembled<K: FiniteField<E = u32>>(
     requires frame { HasFrameForm (K.lawful alg.now.k) alg.now.f frame.now }
     requires found { HasFound (K.lawful alg.now.k) alg.now.f order.now
         (length frame.now.numerators.items) search.now }
-    ensures { IfOk result (HasFunctionsForm (K.lawful alg.now.k) alg.now.f) }
+    ensures form { IfOk result (HasFunctionsForm (K.lawful alg.now.k) alg.now.f) }
+    ensures assembled { let L = K.lawful alg.now.k in let chart = order.now.chart in IfOk result
+        (AreAssembled L alg.now.f chart finite.now.d frame.now search.now) }
 {
     let first = &search.numbers[0];
     let e = first.j;

@@ -11,6 +11,7 @@ ghost use Rattle.ff_lin.specs.Space.{AreVectors, IsSpaceOf, rows_of};
 ghost use Rattle.ff_data.specs.declared.order.Chart.TheVariants.{Finite, Infinite};
 ghost use Rattle.ff_data.specs.Orders.{y_degree, slope_of, IsOrder};
 ghost use Rattle.ff_functions.specs.Elements.{IsMultiple, HoldMultiples, IsGrown, AreNumerators};
+ghost use Rattle.ff_functions.specs.Elements.{AddsVectors};
 
 use crate::echelon::Echelon;
 use crate::images::{image, raised};
@@ -194,10 +195,8 @@ fn with_vectors<K: FiniteField<E = u32>>(
     requires room { short ≤ l }
     ensures vectors { let L = K.lawful alg.now.k in
         IfOk result (λ r. AreVectors (K.elements alg.now.k) (y_degree L alg.now.f * l) r.items) }
-    ensures held { let L = K.lawful alg.now.k in IfOk result (λ r. (d : List ℕ) (m : ℕ) →
-        HoldMultiples (K.elements alg.now.k) d l (y_degree L alg.now.f) m
-        (slope_of L alg.now.f) (y_degree L alg.now.f) 0 (rows_of list.items) →
-        AreNumerators L alg.now.f d m short l (rows_of vectors.now) (rows_of r.items)) }
+    ensures held { let L = K.lawful alg.now.k in IfOk result (λ r. AddsVectors L alg.now.f short l
+        (rows_of vectors.now) (rows_of list.items) (rows_of r.items)) }
 {
     let mut list = list;
     for v in vectors {

@@ -25,6 +25,8 @@ pub(crate) fn class_index(numbers: &[PoleNumber], e: u32, i: u32) -> usize
     ensures within { result ≤ length numbers.now }
     ensures found { HasClass numbers.now e i → result < length numbers.now }
     ensures class { result < length numbers.now → HasClass numbers.now e i }
+    ensures own { result < length numbers.now → (d : PoleNumber) →
+        (get_or numbers.now result d).j % e ≡ i }
 {
     for t in 0..numbers.len() {
         if numbers[t].j % e == i {

@@ -6,6 +6,7 @@ ghost use Rattle.ff_theory.specs.Ring.{IsElement};
 ghost use Rattle.ff_theory.specs.Span.{unit_at};
 ghost use Rattle.ff_theory.specs.Vector.{vector_of, IsVector};
 ghost use Rattle.ff_data.specs.declared.order.Chart.TheVariants.{Infinite};
+ghost use Rattle.ff_data.specs.declared.point.Point.{Point};
 ghost use Rattle.ff_data.specs.Orders.{y_degree, IsOrder};
 ghost use Rattle.ff_frac.specs.Powers.{HasPowersForm};
 
@@ -47,7 +48,8 @@ pub enum Outcome {
 }
 
 impl Trail {
-    ghost use Rattle.ff_functions.specs.Searches.{HasFrameForm, HasTrailForm, IsPowerImage};
+    ghost use Rattle.ff_functions.specs.Searches.{HasFrameForm, HasTrailForm};
+    ghost use Rattle.ff_functions.specs.Searches.{IsPowerOf, IsPowerImage};
 
     /// The image of power i.
     fn image<K: FiniteField<E = u32>>(
@@ -66,8 +68,9 @@ impl Trail {
         ensures vector { let L = K.lawful alg.now.k in let n = y_degree L alg.now.f in
             IfOk result (λ r. IsVector (K.elements alg.now.k) (n * frame.now.h) r.items) }
         ensures value { let F = K.elements alg.now.k in let L = K.lawful alg.now.k in
-            IfOk result (λ r. IsPowerImage L alg.now.f order.now frame.now.h i
-            self.now.powers.power (vector_of F r.items)) }
+            let s = self.now.powers in IfOk result (λ r. (p : Point) →
+            IsPowerOf L alg.now.f order.now p i s →
+            IsPowerImage L alg.now.f order.now p frame.now.h i s.power (vector_of F r.items)) }
     {
         let _index = (i, m);
         let d = &self.powers.modulus;
@@ -97,6 +100,7 @@ impl Trail {
             (HasTrailForm (K.lawful alg.now.k) alg.now.f order.now i (m + 1)) }
         ensures passed { IfOk result
             (λ r. r.passed.items ≡ self.passed.items ++ self.powers.power ∷ []) }
+        ensures powers { IfOk result (λ r. r.powers ≡ self.powers) }
     {
         let _context = (order.chart, alg.f.rows().len(), i, m);
         let power = self.powers.power.copy(alloc)?;
@@ -122,6 +126,9 @@ impl Trail {
         ensures form { IfOk result
             (HasTrailForm (K.lawful alg.now.k) alg.now.f order.now (i + 1) m) }
         ensures passed { IfOk result (λ r. r.passed.items ≡ self.passed.items) }
+        ensures exact { let L = K.lawful alg.now.k in IfOk result (λ r. (p : Point) →
+            IsPowerOf L alg.now.f order.now p i self.powers →
+            IsPowerOf L alg.now.f order.now p (i + 1) r.powers) }
     {
         let _count = m;
         Ok(Trail {
@@ -160,8 +167,9 @@ impl Search {
             (length image.items) c j j r.0) }
         ensures held { let F = K.elements alg.now.k in let L = K.lawful alg.now.k in
             let f = alg.now.f in let o = order.now in let v = vector_of F image.items in
-            IfOk result (λ r. (h : ℕ) → IsPowerImage L f o h j self.trail.powers.power v →
-            IsLook L f o h c j self r.0 r.1) }
+            let N = self.trail.powers.power in
+            IfOk result (λ r. (p : Point) (h : ℕ) → IsPowerImage L f o p h j N v →
+            IsLook L f o p h c j self r.0 r.1) }
     {
         let (echelon, relation) = self.echelon.insert(alloc, &alg.k, image, origin)?;
         let (numbers, is_number) = with_relation(&alg.k, self.numbers, c, j, relation)?;
@@ -196,7 +204,8 @@ impl Search {
             HasSearchForm L alg.now.f order.now (y_degree L alg.now.f * frame.now.h)
             (length frame.now.numerators.items) j j r.0) }
         ensures held { let L = K.lawful alg.now.k in let c = length frame.now.numerators.items in
-            IfOk result (λ r. IsLook L alg.now.f order.now frame.now.h c j self r.0 r.1) }
+            IfOk result (λ r. (p : Point) →
+            IsLook L alg.now.f order.now p frame.now.h c j self r.0 r.1) }
     {
         let i = j as usize;
         let image = self.trail.image(alloc, alg, order, frame, i, i - 1)?;

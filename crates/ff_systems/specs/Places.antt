@@ -1,6 +1,6 @@
 -- Points of an irreducible equation f, over a field whose laws are L, and the least functions
 -- there.
-use Rattle.std.specs.Prelude.{◌≡◌, ℕ, suc, ◌+◌, ◌<◌, ◌≤◌, List}
+use Rattle.std.specs.Prelude.{◌≡◌, ℕ, suc, ◌+◌, ◌<◌, ◌≤◌, List, []}
 use Rattle.ff_theory.specs.Ring.{Elements}
 use Rattle.ff_theory.specs.Lawful.{Lawful, lawful_field}
 use Rattle.ff_theory.specs.Sum.{sum_below}
@@ -8,6 +8,7 @@ use Rattle.ff_theory.specs.Poly.{Poly, polynomials}
 use Rattle.ff_theory.specs.Values.{plane_of}
 use Rattle.ff_factors.specs.Factors.{IsFactored}
 use Rattle.ff_table.specs.Weight.{IsBelow}
+use Rattle.ff_elem.specs.declared.elem.Elem.{Elem}
 use Rattle.ff_elem.specs.Elem.{algebra_in, elem_of}
 use Rattle.ff_data.specs.declared.order.Order.{Order}
 use Rattle.ff_data.specs.declared.point.Point.{Point}
@@ -18,6 +19,18 @@ use Rattle.ff_data.specs.Poles.{HasPoleOf, IsPoleNumber}
 use Rattle.ff_data.specs.Substitution.{poly_at}
 use Rattle.ff_data.specs.Combinations.{elems_of}
 use Rattle.ff_data.specs.Systems.{weight_at, AreLeast}
+
+-- a system with these functions, in which nothing is written
+abbrev pub frame : ℕ → Elem → List Elem → List ℕ → System
+frame e z b weights = record {
+  e = e;
+  z = z;
+  b = b;
+  weights = weights;
+  table = [];
+  x = record { q = []; c = [] };
+  y = record { q = []; c = [] };
+}
 
 module _ {F : Elements ℕ} (L : Lawful F) (f : List (List ℕ)) where
   -- f has no factors over k(x), the orders are the maximal ones of both charts, and p is a point of

@@ -33,14 +33,6 @@ fn has_lists(alloc: Global, a: &Alg<Prime>, want: &[u8]) -> Result<bool, Fail> {
     Ok(text.as_slice() == want)
 }
 
-/// Whether the line of an equation that is not separable is this.
-fn is_line(alloc: Global, which: u8, want: &[u8]) -> Result<bool, Fail>
-    requires { which ≡ 1 }
-{
-    let text = print_refusal(alloc, &Refusal::Inseparable { which })?;
-    Ok(text.as_slice() == want)
-}
-
 /// Whether the line for a first field without a pole system within the limit is this.
 fn is_limit_line(alloc: Global, want: &[u8]) -> Result<bool, Fail> {
     let text = print_refusal(alloc, &Refusal::PoleLimit)?;
@@ -98,9 +90,7 @@ fn lists_of_an_equation_that_is_not_monic(rt: HostRuntime) -> Result<(), Fail> {
 }
 
 #[test]
-fn lines_of_refusals(rt: HostRuntime) -> Result<(), Fail> {
-    let want = b"premise: equation 1 is inseparable in y\n";
-    assert!(rt; is_line(rt.alloc(), 1, want)?);
+fn line_of_a_limit(rt: HostRuntime) -> Result<(), Fail> {
     assert!(rt; is_limit_line(rt.alloc(), b"limit: no pole system within 1200\n")?);
     Ok(())
 }

@@ -1,5 +1,6 @@
 -- What was taken from a source.
-use Rattle.std.proofs.Common.{◌≤◌, ℕ, List, [], length, refl, arith, drop, ◌++◌, Some, None, Ok, Err}
+use Rattle.std.proofs.Common.{◌≤◌, ℕ, List, [], length, refl, arith, drop, ◌++◌}
+use Rattle.std.proofs.Common.{Some, None, Ok, Err}
 use Rattle.std.proofs.Common.{OnErr, Result, sym, ◌∙◌, ap, Option}
 use Rattle.std.proofs.lemmas.List.{take-append-drop}
 use Rattle.ff_io.specs.Bytes.{TakesSome, TakesUpTo}

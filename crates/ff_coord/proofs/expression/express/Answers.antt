@@ -5,7 +5,7 @@ use Rattle.ff_data.specs.declared.system.Coords.{Coords}
 use Rattle.ff_data.specs.declared.system.System.{System}
 use Rattle.ff_data.specs.Combinations.{AreElems}
 use Rattle.ff_data.specs.Systems.{IsExpression}
-use Rattle.ff_describe.specs.Levels.{frame}
+use Rattle.ff_systems.specs.Places.{frame}
 use Rattle.ff_describe.proofs.Options.{some-map, none-map}
 use Rattle.ff_describe.proofs.SystemLemmas.{frame-expression, expression-frame, frame-parts}
 use Rattle.ff_describe.proofs.SystemLemmas.{functions_of}

@@ -22,7 +22,8 @@ returns-clause-value g c =
     let L = g.K.Ring.lawful c.args.k.now in
     let list = c.deref.result.now in
     ok_map (λ (r : List ℕ). poly_of F r ≡ poly_of F list)
-    (λ (r : List ℕ). (a : ℕ) → a < c.args.n → vector_of F r a ≡ vector_of F c.args.row.now (c.args.n - 1 - a)) c.from_coeffs.result
+    (λ (r : List ℕ). (a : ℕ) → a < c.args.n
+    → vector_of F r a ≡ vector_of F c.args.row.now (c.args.n - 1 - a)) c.from_coeffs.result
     (λ r e a l. read-poly F L r list e a
     ∙ ap (λ t. vector_of F t a) c.deref.ensures.value ∙ c.in_ok-list.ensures.value a l)
     c.from_coeffs.ensures.value

@@ -7,7 +7,8 @@ use Rattle.ff_elem.specs.Elem.{elem_of}
 use Rattle.ff_data.specs.declared.system.Coords.{Coords}
 use Rattle.ff_data.specs.Combinations.{AreElems, IsRelationOf}
 use Rattle.ff_data.specs.Systems.{IsExpression}
-use Rattle.ff_describe.specs.Levels.{frame, offset, HasLevels}
+use Rattle.ff_systems.specs.Places.{frame}
+use Rattle.ff_describe.specs.Levels.{offset, HasLevels}
 use Rattle.ff_describe.specs.Readings.{AreZero, IsWrittenIn}
 use Rattle.ff_describe.proofs.Options.{some-map, none-map}
 use Rattle.ff_describe.proofs.TableLemmas.{in-space}

@@ -6,10 +6,12 @@ use Rattle.ff_describe.proofs.SystemLemmas.{described}
 use Rattle.ff_describe.proofs.systems.with_coords.Goals as goal
 
 pub returns-in_ok-functions-in-Some-clause-kept : goal.returns-in_ok-functions-in-Some-clause-kept
-returns-in_ok-functions-in-Some-clause-kept g c = subst (λ (s : Functions). HasFunctions s c.assembled.result)
+returns-in_ok-functions-in-Some-clause-kept g c =
+    subst (λ (s : Functions). HasFunctions s c.assembled.result)
     c.in_ok-functions-in-Some.ensures c.assembled.ensures.functions
 
-pub returns-in_ok-functions-in-Some-clause-described : goal.returns-in_ok-functions-in-Some-clause-described
+pub returns-in_ok-functions-in-Some-clause-described :
+    goal.returns-in_ok-functions-in-Some-clause-described
 returns-in_ok-functions-in-Some-clause-described g c =
     let K = g.K.Ring.elements c.args.alg.now.k in
     let L = g.K.Ring.lawful c.args.alg.now.k in

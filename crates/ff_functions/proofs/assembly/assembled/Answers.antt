@@ -1,7 +1,9 @@
-use Rattle.std.proofs.Common.{ℕ, ◌<◌, ◌≤◌, length, sym, subst, arith, All}
+use Rattle.std.proofs.Common.{ℕ, ◌<◌, ◌≤◌, length, refl, sym, subst, arith, All}
 use Rattle.ff_forms.specs.declared.functions.TheConstants.{POLE_LIMIT}
 use Rattle.ff_functions.specs.declared.numbers.PoleNumber.{PoleNumber}
 use Rattle.ff_functions.specs.Searches.{HasClass}
+use Rattle.ff_functions.specs.Combined.{AreClassWeights}
+use Rattle.ff_functions.proofs.FunctionLists.{number_at}
 use Rattle.ff_functions.proofs.FoundLemmas.{found_trail, found_number, found_within}
 use Rattle.ff_functions.proofs.assembly.assembled.Goals as goal
 
@@ -66,12 +68,25 @@ returns g c =
     let found = c.requires.found in
     let n = found_number L c.args.alg.now.f c.args.order.now s d found 0 c.index-first.result.now
     found.complete.nonempty c.index-first.ensures in
+    let e = c.index-first.result.now.j in
     record {
-      positive = n.positive;
-      e = omega (arith, n.within, found.trail.count, found.within);
-      z = c.in_ok-z.ensures;
-      b = c.in_ok-items.ensures.elems;
-      count = c.in_ok-items.ensures.count;
-      weights = c.in_ok-items-2.ensures.count;
-      within = c.in_ok-items-2.ensures.within;
+      form = record {
+        positive = n.positive;
+        e = omega (arith, n.within, found.trail.count, found.within);
+        z = c.in_ok-z.ensures.elem;
+        b = c.in_ok-items.ensures.elems;
+        count = c.in_ok-items.ensures.count;
+        weights = c.in_ok-items-2.ensures.count;
+        within = c.in_ok-items-2.ensures.within;
+      };
+      assembled = record {
+        first = c.index-first.result.now;
+        at = number_at s.numbers.items 0 c.index-first.result.now found.complete.nonempty
+            c.index-first.ensures;
+        e = refl;
+        z = c.in_ok-z.ensures.value;
+        b = c.in_ok-items.ensures.functions;
+        weights = subst (λ t. AreClassWeights t e e c.in_ok-items-2.items.items)
+            c.deref.ensures.value c.in_ok-items-2.ensures.weights;
+      };
     }

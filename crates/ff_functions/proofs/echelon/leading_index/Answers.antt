@@ -1,4 +1,4 @@
-use Rattle.std.proofs.Common.{sym, ◌∙◌, subst, arith}
+use Rattle.std.proofs.Common.{sym, ◌∙◌, arith}
 use Rattle.ff_lin.proofs.Steps.{nonzero_at, zero_next}
 use Rattle.ff_functions.proofs.echelon.leading_index.Goals as goal
 

@@ -1,4 +1,4 @@
-use Rattle.std.proofs.Common.{◌<◌, length, arith, below_more}
+use Rattle.std.proofs.Common.{arith, below_more}
 use Rattle.ff_functions.proofs.numbers.class_index.Goals as goal
 
 pub loop-t-init : goal.loop-t-init

@@ -1,4 +1,4 @@
-use Rattle.std.proofs.Common.{ℕ, ◌+◌, ◌<◌, ◌≤◌, length, refl, sym, subst, arith, All, IfSome, Vec}
+use Rattle.std.proofs.Common.{ℕ, ◌+◌, ◌<◌, length, refl, sym, subst, arith, All, IfSome, Vec}
 use Rattle.std.proofs.Common.{Global}
 use Rattle.std.proofs.lemmas.List.Elements.{All-push}
 use Rattle.ff_theory.specs.Vector.{IsVector}

@@ -42,5 +42,6 @@ pub returns-clause-begun : goal.returns-clause-begun
 returns-clause-begun g c =
     let F = g.K.Ring.elements c.args.alg.now.k in
     let L = g.K.Ring.lawful c.args.alg.now.k in
-    search_begun F L c.args.alg.now.f c.args.order.now c.args.frame.now c.args.finite.now.d
-    c.args.infinite.now _ c.in_ok-echelon.ensures.held (ap length c.new-2.ensures.items)
+    search_begun F L c.args.alg.now.f c.args.order.now c.args.point.now c.args.frame.now
+    c.args.finite.now.d c.args.infinite.now _ c.in_ok-echelon.ensures.held
+    (ap length c.new-2.ensures.items) c.in_ok-powers.ensures.exact

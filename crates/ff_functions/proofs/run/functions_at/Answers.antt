@@ -1,9 +1,9 @@
-use Rattle.std.proofs.Common.{◌≡◌, refl, sym, ◌∙◌, arith}
+use Rattle.std.proofs.Common.{◌≡◌, refl, sym, ◌∙◌}
 use Rattle.ff_data.specs.declared.order.Chart.TheVariants.{Finite, Infinite}
 use Rattle.ff_functions.proofs.run.functions_at.Goals as goal
 
-pub search_within-requires : goal.search_within-requires
-search_within-requires g c = record {
+pub search_at_limit-requires : goal.search_at_limit-requires
+search_at_limit-requires g c = record {
   order = c.requires.order;
   finite = c.requires.order;
   infinite = c.requires.other;
@@ -11,7 +11,6 @@ search_within-requires g c = record {
   own_infinite = λ e. let k : Finite ≡ Infinite = sym c.in-Finite.is ∙ e in absurd (cc);
   point = c.requires.point;
   like = c.requires.like;
-  bound = omega arith;
 }
 
 pub search_at_infinity-requires : goal.search_at_infinity-requires

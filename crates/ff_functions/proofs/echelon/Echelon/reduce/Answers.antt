@@ -1,7 +1,6 @@
-use Rattle.std.proofs.Common.{◌≡◌, ℕ, ◌+◌, ◌<◌, suc, length, refl, sym, ◌∙◌, ap, subst, arith}
+use Rattle.std.proofs.Common.{◌≡◌, ◌+◌, ◌<◌, suc, length, refl, sym, ◌∙◌, ap, subst, arith}
 use Rattle.std.proofs.Common.{get_or}
 use Rattle.ff_theory.specs.Vector.{vector_of, IsVector}
-use Rattle.ff_functions.specs.declared.echelon.Row.{Row}
 use Rattle.ff_functions.specs.Searches.{IsRow}
 use Rattle.ff_functions.specs.Rows.{IsReduced}
 use Rattle.ff_functions.proofs.RowLemmas.{reduced_none, reduced_clear}

@@ -1,4 +1,4 @@
-use Rattle.std.proofs.Common.{length, sym, ◌∙◌, ap, ap₂, subst, All}
+use Rattle.std.proofs.Common.{length, sym, ◌∙◌, subst, All}
 use Rattle.std.specs.Vec.{with_items}
 use Rattle.std.proofs.lemmas.List.{with_items_is}
 use Rattle.ff_theory.specs.Ring.{IsElement}

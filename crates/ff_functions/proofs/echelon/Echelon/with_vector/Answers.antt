@@ -1,6 +1,5 @@
-use Rattle.std.proofs.Common.{◌≡◌, List, [], length, sym, ap, subst, arith, All}
+use Rattle.std.proofs.Common.{length, sym, ap, subst, arith, All}
 use Rattle.ff_theory.specs.Ring.{IsElement}
-use Rattle.ff_functions.specs.declared.echelon.Row.{Row}
 use Rattle.ff_theory.specs.Vector.{vector_of}
 use Rattle.ff_functions.specs.Rows.{IsSpannedWith}
 use Rattle.ff_functions.specs.Searches.{AreRows}

@@ -1,4 +1,4 @@
-use Rattle.std.proofs.Common.{◌≡◌, ℕ, length, sym, ◌∙◌, ap, subst, arith, All}
+use Rattle.std.proofs.Common.{ℕ, sym, ◌∙◌, ap, subst, arith, All}
 use Rattle.ff_theory.specs.Ring.{IsElement}
 use Rattle.ff_theory.specs.Monomial.{monomial}
 use Rattle.ff_theory.specs.Values.{poly_of, polys_over}

@@ -20,7 +20,6 @@ returns-in_ok-numerators-in-Some g c =
       rows = c.in_ok-h.ensures.least;
       elements = λ chart. frame_elements F L f c.args.alg.now.plane c.args.alg.now.has_y
           c.args.finite.now c.requires.order chart c.args.m _
-          (c.in-Some.ensures.1 ∙ ap (λ d. length d + c.args.m) c.coeffs.ensures) c.in_ok-h.ensures.least
-          steep
-          c.in_ok-numerators-in-Some.ensures.held;
+          (c.in-Some.ensures.1 ∙ ap (λ d. length d + c.args.m) c.coeffs.ensures)
+          c.in_ok-h.ensures.least steep c.in_ok-numerators-in-Some.ensures.held;
     }

@@ -1,7 +1,7 @@
-use Rattle.std.proofs.Common.{◌≡◌, [], suc, get_or, ◌≤◌, ◌+◌, ◌*◌, ℕ, length, sym, ◌∙◌, ap, subst}
+use Rattle.std.proofs.Common.{◌≡◌, [], suc, get_or, ◌+◌, ◌*◌, ℕ, length, sym, ◌∙◌, ap, subst}
 use Rattle.std.proofs.Common.{arith, Vec, Global}
 use Rattle.std.proofs.lemmas.List.{get_or-map}
-use Rattle.ff_theory.specs.Vector.{vector_of, IsVector}
+use Rattle.ff_theory.specs.Vector.{vector_of}
 use Rattle.ff_lin.specs.Space.{rows_of}
 use Rattle.ff_common.specs.Common.{IsImage}
 use Rattle.ff_data.specs.Orders.{y_degree}

@@ -11,13 +11,16 @@ returns g c =
         trail = c.in_ok-step.ensures.form;
         numbers = c.requires.form.numbers;
       };
-      held = λ t first h. record {
+      held = λ p t first h. record {
+        power = c.in_ok-step.ensures.exact p h.power;
         images = h.images;
         before = h.before;
         powers = λ i l. subst (λ N. IsPowerImage L c.args.alg.now.f c.args.order.now
-            c.args.frame.now.h (i + 1) N (h.images (length c.args.frame.now.numerators.items + i)))
+            p c.args.frame.now.h (i + 1) N
+            (h.images (length c.args.frame.now.numerators.items + i)))
             (ap (λ t. get_or t i []) (sym c.in_ok-step.ensures.passed)) (h.powers i l);
         hold = h.hold;
+        form = h.form;
         numbers = h.numbers;
       };
       numbers = refl;

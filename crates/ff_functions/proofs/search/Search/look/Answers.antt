@@ -1,4 +1,4 @@
-use Rattle.std.proofs.Common.{◌≡◌, ◌+◌, ◌-◌, ◌*◌, ℕ, pred, length, refl, sym, ◌∙◌, ap, subst}
+use Rattle.std.proofs.Common.{◌≡◌, ◌+◌, ◌-◌, ◌*◌, pred, length, refl, sym, ◌∙◌, ap, subst}
 use Rattle.std.proofs.Common.{arith}
 use Rattle.ff_theory.proofs.Results.{ok_map}
 use Rattle.ff_theory.specs.Span.{unit_at}
@@ -62,7 +62,8 @@ returns g c =
           (y_degree L f * frame.h) c.len-c.result (length frame.numerators.items) j j j
           image.ensures.vector.len d refl h) c.with_image.ensures.form;
       held = ok_map _ _ c.with_image.result
-          (λ r held t first. subst (λ n. HoldSearch L f o frame.h n (pred j) t first c.args.self
-          → HoldDecided L f o frame.h n j t first r.0 r.1) d
-          (held frame.h image.ensures.value t first)) c.with_image.ensures.held;
+          (λ r held p t first. subst (λ n. HoldSearch L f o p frame.h n j (pred j) t first
+          c.args.self → HoldDecided L f o p frame.h n j t first r.0 r.1) d
+          (λ h. held p frame.h (image.ensures.value p h.power) t first h))
+          c.with_image.ensures.held;
     }

@@ -1,4 +1,4 @@
-use Rattle.std.proofs.Common.{◌≡◌, ◌+◌, ◌-◌, ◌≤◌, ℕ, pred, length, subst, arith, IfSome}
+use Rattle.std.proofs.Common.{◌≡◌, ◌+◌, ◌-◌, pred, length, subst, arith, IfSome}
 use Rattle.ff_theory.specs.Vector.{vector_of, IsVector}
 use Rattle.ff_functions.specs.declared.search.Search.{Search}
 use Rattle.ff_functions.specs.Searches.{AreRows, HasTrailForm}
@@ -63,11 +63,13 @@ returns g c =
             c.in_ok-trail.ensures.form;
         numbers = c.in_ok-numbers.ensures.form;
       };
-      held = λ h image t first held. search_more F L f o h c.args.c j len c.requires.positive t
+      held = λ p h image t first held. search_more F L f o p h c.args.c j len c.requires.positive t
           first c.args.self new (vector_of F c.args.image.items) (vector_of F c.args.origin.items)
           c.in_ok-echelon.relation c.args.self.trail.powers.power c.requires.form.rows
           c.requires.unit c.in_ok-echelon.ensures.value c.in_ok-trail.ensures.passed
+          c.in_ok-trail.ensures.powers
           c.requires.form.trail.count c.requires.form.numbers
           (λ images v h. c.in_ok-numbers.ensures.numbers t images v h) c.in_ok-numbers.is_number
-          (λ images v. c.in_ok-numbers.ensures.decided t images v) image held;
+          (λ images v. c.in_ok-numbers.ensures.decided t images v) c.in_ok-numbers.ensures.form
+          image held;
     }

@@ -1,4 +1,4 @@
-use Rattle.std.proofs.Common.{◌≡◌, ℕ, ◌+◌, ◌*◌, ◌-◌, ◌<◌, ◌≤◌, pred, length, sym, ap, ap₂, subst}
+use Rattle.std.proofs.Common.{◌≡◌, ℕ, ◌-◌, pred, length, sym, ap, subst}
 use Rattle.std.proofs.Common.{arith, refl, ◌∙◌}
 use Rattle.ff_theory.specs.Ring.{power}
 use Rattle.ff_theory.specs.Poly.{polynomials}
@@ -6,7 +6,7 @@ use Rattle.ff_theory.specs.Monomial.{variable}
 use Rattle.ff_theory.proofs.Results.{ok_map}
 use Rattle.ff_data.specs.declared.order.Chart.TheVariants.{Finite, Infinite}
 use Rattle.ff_theory.specs.Values.{plane_of}
-use Rattle.ff_theory.specs.Vector.{vector_of, IsVector}
+use Rattle.ff_theory.specs.Vector.{vector_of}
 use Rattle.ff_charts.specs.Lattice.{HasShape}
 use Rattle.ff_data.proofs.NumeratorLemmas.{order_length}
 use Rattle.ff_functions.proofs.ShortImages.{low_short}
@@ -57,9 +57,10 @@ returns-in-Finite-clause-value g c =
     omega (arith, ap length c.coeffs.ensures) in
     let same = λ (j : ℕ). ap (λ t. vector_of F t j) c.deref.ensures.value
     ∙ c.in_ok-v.ensures.value j in
-    ok_map _ _ c.image.result (λ r value. record {
+    ok_map _ _ c.image.result (λ r value p exact. record {
       powers = s;
       form = c.requires.form.powers;
+      exact = exact;
       numerator = refl;
       finite = λ e. plane_image F L f s.modulus v s.power (length c.coeffs.result.now - 1)
           (pred (length s.modulus)) h (vector_of F r.items) l same value
@@ -80,9 +81,10 @@ returns-clause-value g c =
     omega (arith, ap length c.coeffs.ensures) in
     let same = λ (j : ℕ). ap (λ t. vector_of F t j) c.deref-in-Infinite.ensures.value
     ∙ c.in_ok-v.ensures.value j in
-    ok_map _ _ c.raised.result (λ r value. record {
+    ok_map _ _ c.raised.result (λ r value p exact. record {
       powers = s;
       form = c.requires.form.powers;
+      exact = exact;
       numerator = refl;
       finite = λ e. let k : Finite ≡ Infinite = sym e ∙ c.in-Infinite.is in absurd (cc);
       infinite = λ e. plane_times F L f (λ m. power (polynomials F.ring) (variable F.ring) m) v

@@ -1,4 +1,4 @@
-use Rattle.std.proofs.Common.{◌≤◌, [], ◌∷◌, ◌++◌, ◌∙◌, ap, length, sym, subst, arith, All}
+use Rattle.std.proofs.Common.{refl, ◌≤◌, [], ◌∷◌, ◌++◌, ◌∙◌, ap, length, sym, subst, arith, All}
 use Rattle.std.proofs.lemmas.List.Elements.{All-push}
 use Rattle.ff_theory.specs.Values.{IsPlane}
 use Rattle.ff_data.specs.Orders.{y_degree}
@@ -29,3 +29,6 @@ returns-clause-form g c =
 pub returns-clause-passed : goal.returns-clause-passed
 returns-clause-passed g c = c.in_ok-push.ensures.items
     ∙ ap (λ x. c.args.self.passed.items ++ x ∷ []) c.in_ok-power.ensures
+
+pub returns-clause-powers : goal.returns-clause-powers
+returns-clause-powers g c = refl

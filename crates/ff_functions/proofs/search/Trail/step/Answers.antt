@@ -9,4 +9,5 @@ returns g c = record {
     count = c.requires.form.count;
   };
   passed = refl;
+  exact = λ p h at. c.in_ok-step.ensures.exact p at (h at);
 }
