@@ -13,6 +13,7 @@ top=$(cd "$(dirname "$0")/.." && pwd)
 most=${1-120}
 work=$(mktemp -d)
 trap 'rm -rf "$work"' EXIT
+. "$top/bench/timed.sh"
 program=${PROGRAM-$("$top/ff" where)} ||
     { echo "there is no proved program: call ./ff prove" >&2; exit 1; }
 
@@ -38,24 +39,16 @@ shares() {
         sort -rn | awk '{ printf "%s %.0f%% ", $2, $1 }'
 }
 
-# A run, whose processor seconds, user and system, are noted.
-run() {
-    bash -c 'TIMEFORMAT="%3U %3S"; time timeout "$0" "$1" iso < "$2/input" > "$2/answer"' \
-        "$most" "$program" "$work" 2> "$work/times"
-}
-
-seconds() { awk '{ printf "%.3f", $1 + $2 }' "$work/times"; }
-
 echo 'prime equation seconds answer shares'
 while read -r prime equation; do
     printf 'p %s\nf %s\ng %s\n' "$prime" "$equation" "$(pointless "$prime")" > "$work/input"
     status=0
-    run || status=$?
+    run iso || status=$?
     answer=$(head -n 1 "$work/answer" | tr ' ' '-')
     if [ "$status" -ne 0 ]; then answer="status-$status"; fi
     more=-
     if command -v perf > "$work/log"; then more=$(shares); fi
-    echo "$prime $equation $(seconds) $answer $more"
+    echo "$prime $equation $(seconds '%.3f') $answer $more"
 done <<'END'
 3 y^2-x^5-1
 97 y^2-x^5-1

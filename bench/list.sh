@@ -11,6 +11,7 @@ top=$(cd "$(dirname "$0")/.." && pwd)
 most=${1-120}
 work=$(mktemp -d)
 trap 'rm -rf "$work"' EXIT
+. "$top/bench/timed.sh"
 program=${PROGRAM-$("$top/ff" where)} ||
     { echo "there is no proved program: call ./ff prove" >&2; exit 1; }
 
@@ -37,26 +38,18 @@ dearest() {
         head -n 3 | tr '\n' ' '
 }
 
-# A run, whose processor seconds, user and system, are noted.
-run() {
-    bash -c 'TIMEFORMAT="%3U %3S"; time timeout "$0" "$1" aut < "$2/input" > "$2/answer"' \
-        "$most" "$program" "$work" 2> "$work/times"
-}
-
-seconds() { awk '{ printf "%.2f", $1 + $2 }' "$work/times"; }
-
 echo 'prime equation entries seconds tests nodes functions'
 while read -r prime equation; do
     printf 'p %s\nf %s\n' "$prime" "$equation" > "$work/input"
     status=0
-    run || status=$?
+    run aut || status=$?
     count=$(sed -n 's/^automorphisms: //p' "$work/answer")
     if [ "$status" -ne 0 ]; then count="status-$status"; fi
     more='- - -'
     if command -v perf nm > "$work/log"; then
         more="$(calls is_inverse) $(calls push_child) $(dearest)"
     fi
-    echo "$prime $equation $count $(seconds) $more"
+    echo "$prime $equation $count $(seconds '%.2f') $more"
 done <<'END'
 5 y^2-x^5+x
 7 y^2-x^7+x
