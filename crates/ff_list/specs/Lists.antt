@@ -1,6 +1,6 @@
 -- Lists of isomorphisms of two equations f and g over a field whose laws are L, and why there is
 -- none.
-use Rattle.std.specs.Prelude.{◌≡◌, ℕ, ◌+◌, ◌<◌, ◌≤◌, ◌⊎◌, List, length}
+use Rattle.std.specs.Prelude.{◌≡◌, ℕ, ◌+◌, ◌<◌, ◌≤◌, ◌⊎◌, List, ◌++◌, length, get_or}
 use Rattle.std.specs.declared.cmp.Ordering.TheVariants.{Less}
 use Rattle.std.specs.List.{All}
 use Rattle.ff_theory.specs.Ring.{Elements}
@@ -16,7 +16,9 @@ use Rattle.ff_data.specs.declared.system.System.{System}
 use Rattle.ff_data.specs.Lists.{IsEntry, key_at}
 use Rattle.ff_data.specs.Orders.{IsMaximal, IsSeparable}
 use Rattle.ff_data.specs.Points.{IsPoint}
-use Rattle.ff_data.specs.Systems.{gaps_of}
+use Rattle.ff_data.specs.Systems.{gaps_of, IsSystem}
+use Rattle.ff_forms.specs.declared.functions.TheConstants.{POLE_LIMIT}
+use Rattle.ff_points.specs.PointLists.{IsOneOf, AreRising}
 use Rattle.ff_sep.specs.declared.separability.SepFault.TheVariants as fault
 use Rattle.ff_sep.specs.Faults.{IsCause}
 use Rattle.ff_const.specs.Fixed.{AreOrderedFactors}
@@ -60,6 +62,52 @@ module _ {F : Elements ℕ} (L : Lawful F) (f : List (List ℕ)) where
     pub point : Point
     pub is_point : IsPointOf finite infinite point
 
+  -- p is a point of one of two orders, and s a pole system of it within the limit
+  abbrev pub IsSystemOf : Order → Order → Point → System → Type 0
+  IsSystemOf finite infinite p s =
+      (IsPoint L f finite p × IsSystem L f finite p infinite POLE_LIMIT s)
+      ⊎ (IsPoint L f infinite p × IsSystem L f infinite p finite POLE_LIMIT s)
+
+  -- the points of two orders: those at infinity first, and the ones of each order by rising keys
+  pub record AreOrderedPoints (finite infinite : Order) (list : List Point) : Type 0 where
+    pub first : List Point
+    pub second : List Point
+    pub joined : list ≡ first ++ second
+    pub at_infinity : All (IsPoint L f infinite) first
+    pub infinite_rising : AreRising F first
+    pub others : All (IsPoint L f finite) second
+    pub finite_rising : AreRising F second
+    pub all : (p : Point) → IsPointOf finite infinite p → IsOneOf list p
+
+  -- the point at the index is the first of a list with a pole system within the limit, which s is
+  pub record IsFirstAt (finite infinite : Order) (list : List Point) (index : ℕ) (s : System)
+      : Type 0 where
+    pub below : index < length list
+    pub system : (d : Point) → IsSystemOf finite infinite (get_or list index d) s
+    pub first : (j : ℕ) (d : Point) (t : System) → j < index
+        → ¬ IsSystemOf finite infinite (get_or list j d) t
+
+  -- p is the first point of two orders with a pole system within the limit, which s is
+  pub record IsKeptSystem (finite infinite : Order) (p : Point) (s : System) : Type 0 where
+    pub list : List Point
+    pub ordered : AreOrderedPoints finite infinite list
+    pub index : ℕ
+    pub first : IsFirstAt finite infinite list index s
+    pub point : (d : Point) → get_or list index d ≡ p
+
+  -- both maximal orders of f; they have a point, and where f is irreducible, none of their points
+  -- has a pole system within the limit
+  pub record HasNoSystem : Type 0 where
+    pub place : HasRationalPlace
+    pub none : IsIrreducible L f → (p : Point) (s : System)
+        → IsPointOf place.finite place.infinite p → ¬ IsSystemOf place.finite place.infinite p s
+
+  -- both maximal orders of f; where f is irreducible, s is a pole system of their first point that
+  -- has one within the limit
+  pub record HasKeptSystem (s : System) : Type 0 where
+    pub place : HasRationalPlace
+    pub kept : IsIrreducible L f → IsKeptSystem place.finite place.infinite place.point s
+
   -- both maximal orders of f, which have no point
   pub record HaveNoPlace (finite infinite : Order) : Type 0 where
     pub orders : AreBothOrders finite infinite
@@ -95,6 +143,6 @@ module _ {F : Elements ℕ} (L : Lawful F) (f g : List (List ℕ)) where
   IsRefused (refusal.Reducible w a b) = HoldsOfFirst (λ h. AreFactors L h a b) w
   IsRefused (refusal.NoRationalPlace finite infinite) =
       AreAdmitted × HaveNoPlace L f finite infinite
-  IsRefused refusal.PoleLimit = AreAdmitted × HasRationalPlace L f
-  IsRefused (refusal.SmallGenus s) = AreAdmitted × IsSmall s × HasRationalPlace L f
+  IsRefused refusal.PoleLimit = AreAdmitted × HasNoSystem L f
+  IsRefused (refusal.SmallGenus s) = AreAdmitted × IsSmall s × HasKeptSystem L f s
   IsRefused refusal.NoMemory = Unit {0}

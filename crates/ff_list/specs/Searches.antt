@@ -1,6 +1,6 @@
 -- What the search for isomorphisms has: equations with their orders, points and systems, by their
 -- forms, for an equation f over a field whose laws are L. This project's own.
-use Rattle.std.specs.Prelude.{◌≡◌, ℕ, ◌-◌, ◌<◌, ◌≤◌, ◌⊎◌, List, length, get_or}
+use Rattle.std.specs.Prelude.{◌≡◌, ℕ, ◌-◌, ◌<◌, ◌≤◌, ◌⊎◌, List, length, get_or, Option, None, Some}
 use Rattle.std.specs.declared.cmp.Ordering.TheVariants.{Less}
 use Rattle.std.specs.List.{All}
 use Rattle.ff_theory.specs.Ring.{Elements, IsElement}
@@ -20,14 +20,16 @@ use Rattle.ff_ring.specs.Ring.{HasTable}
 use Rattle.ff_forms.specs.Forms.{HasPointForm, HasRelationForm, IsWithinLimit, AreAlike}
 use Rattle.ff_sep.specs.declared.separability.SepFault.TheVariants as fault
 use Rattle.ff_sep.specs.Faults.{IsCause}
+use Rattle.ff_const.specs.Irreducible.{IsIrreducible}
 use Rattle.ff_list.specs.declared.known.Known.{Known}
+use Rattle.ff_list.specs.declared.places.Found.{Found}
 use Rattle.ff_list.specs.declared.starts.KeptParts.{KeptParts}
 use Rattle.ff_list.specs.declared.starts.Start.{Start}
 use Rattle.ff_list.specs.declared.starts.StartFault.{StartFault}
 use Rattle.ff_list.specs.declared.starts.StartFault.TheVariants as start
 use Rattle.ff_list.specs.Lists.{AreFactors, AreBothOrders, IsSmall}
-use Rattle.ff_list.specs.Lists.{IsPointOf, HasRationalPlace, HaveNoPlace}
-use Rattle.ff_points.specs.PointLists.{IsOneOf}
+use Rattle.ff_list.specs.Lists.{IsPointOf, HaveNoPlace, HasNoSystem, HasKeptSystem}
+use Rattle.ff_list.specs.Lists.{AreOrderedPoints, IsSystemOf, IsFirstAt, IsKeptSystem}
 
 -- ---- Lists by rising key
 
@@ -80,7 +82,7 @@ module _ {F : Elements ℕ} (L : Lawful F) (f : List (List ℕ)) where
     pub orders : AreBothOrders L f o q
     pub each : All (IsPlace F o q) places
     pub points : All (IsPointOf L f o q) places
-    pub all : (p : Point) → IsPointOf L f o q p → IsOneOf places p
+    pub ordered : AreOrderedPoints L f o q places
 
   -- ---- Systems
 
@@ -110,18 +112,29 @@ module _ {F : Elements ℕ} (L : Lawful F) (f : List (List ℕ)) where
     pub system : IsFormed s.system
     pub gaps : 1 < gaps_of s.system.e s.system.weights
 
+  -- a pole system of p, or none that is alike
+  abbrev pub IsSystemIfAny : Order → Order → Point → (System → Type 0) → Option System → Type 0
+  IsSystemIfAny o q p alike (Some s) = IsSystemOf L f o q p s
+  IsSystemIfAny o q p alike None = (s : System) → IsSystemOf L f o q p s → ¬ alike s
+
+  -- the first of the points with a pole system, or none of them has one
+  abbrev pub IsFirstIfAny : Order → Order → List Point → Option Found → Type 0
+  IsFirstIfAny o q list (Some r) = IsFirstAt L f o q list r.index r.system
+  IsFirstIfAny o q list None = (j : ℕ) (d : Point) (s : System) → j < length list
+      → ¬ IsSystemOf L f o q (get_or list j d) s
+
   -- why the orders o and q give no system to begin with
   abbrev pub IsStartFault : Order → Order → StartFault → Type 0
   IsStartFault o q start.NoPlace = HaveNoPlace L f o q
-  IsStartFault o q start.PoleLimit = HasRationalPlace L f
-  IsStartFault o q (start.SmallGenus s) = IsSmall s × HasRationalPlace L f
+  IsStartFault o q start.PoleLimit = HasNoSystem L f
+  IsStartFault o q (start.SmallGenus s) = IsSmall s × HasKeptSystem L f s
   IsStartFault o q start.NoMemory = Unit {0}
 
   -- the refusal that says so
   abbrev pub HasNoStart : Refusal → Type 0
   HasNoStart (refusal.NoRationalPlace finite infinite) = HaveNoPlace L f finite infinite
-  HasNoStart refusal.PoleLimit = HasRationalPlace L f
-  HasNoStart (refusal.SmallGenus s) = IsSmall s × HasRationalPlace L f
+  HasNoStart refusal.PoleLimit = HasNoSystem L f
+  HasNoStart (refusal.SmallGenus s) = IsSmall s × HasKeptSystem L f s
   HasNoStart refusal.NoMemory = Unit {0}
   HasNoStart r = ⊥
 
@@ -143,3 +156,4 @@ module _ {F : Elements ℕ} (L : Lawful F) (f g : List (List ℕ)) where
     pub point : IsPointOf L f p.finite1 p.infinite1 p.point
     pub system : IsFormed L f p.system
     pub gaps : 1 < gaps_of p.system.e p.system.weights
+    pub kept : IsIrreducible L f → IsKeptSystem L f p.finite1 p.infinite1 p.point p.system

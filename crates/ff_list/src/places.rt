@@ -1,8 +1,11 @@
 // The points of both maximal orders, and the first of them with a pole system.
 ghost use Rattle.std.specs.Prelude.{◌≡◌, ◌<◌, ◌++◌, length, IfOk, IfSome};
 ghost use Rattle.ff_functions.specs.Searches.{HasWeights};
-ghost use Rattle.ff_list.specs.Lists.{AreBothOrders};
+ghost use Rattle.ff_forms.specs.Forms.{AreAlike};
+ghost use Rattle.ff_const.specs.Irreducible.{IsIrreducible};
+ghost use Rattle.ff_list.specs.Lists.{AreBothOrders, IsPointOf};
 ghost use Rattle.ff_list.specs.Searches.{ArePlaces, IsPlace, IsFormed};
+ghost use Rattle.ff_list.specs.Searches.{IsSystemIfAny, IsFirstIfAny};
 
 use crate::curve::Curve;
 use ff_alg::{FiniteField, NoMemory};
@@ -55,8 +58,12 @@ pub fn system_at<K: FiniteField<E = u32>>(
     requires point { let c = curve.now in
         IsPlace (K.elements c.alg.k) c.finite c.infinite point.now }
     requires like { IfSome like (λ s. HasWeights s.now) }
-    ensures { let c = curve.now in
+    ensures form { let c = curve.now in
         IfOk result (λ o. IfSome o (IsFormed (K.lawful c.alg.k) c.alg.f)) }
+    ensures exact { let c = curve.now in let L = K.lawful c.alg.k in let p = point.now in
+        let alike = λ (s : System). IfSome like.entry (λ t. AreAlike s t.now) in
+        IsIrreducible L c.alg.f → IsPointOf L c.alg.f c.finite c.infinite p →
+        IfOk result (IsSystemIfAny L c.alg.f c.finite c.infinite p alike) }
 {
     let (finite, infinite) = (&curve.finite, &curve.infinite);
     match point.chart {
@@ -94,6 +101,9 @@ pub fn first_of<K: FiniteField<E = u32>>(
     ensures index { IfOk result (λ o. IfSome o (λ s. s.index < length places.now)) }
     ensures system { let c = curve.now in let L = K.lawful c.alg.k in
         IfOk result (λ o. IfSome o (λ s. IsFormed L c.alg.f s.system)) }
+    ensures first { let c = curve.now in let L = K.lawful c.alg.k in
+        IsIrreducible L c.alg.f →
+        IfOk result (IsFirstIfAny L c.alg.f c.finite c.infinite places.now) }
 {
     for index in 0..places.len() {
         match system_at(alloc, curve, &places[index], None)? {

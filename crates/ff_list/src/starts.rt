@@ -1,9 +1,10 @@
 // The first field with the pole system that is kept for the search.
-ghost use Rattle.std.specs.Prelude.{◌≡◌, ◌<◌, length, IfOk, IfErr};
+ghost use Rattle.std.specs.Prelude.{◌≡◌, ◌<◌, length, get_or, IfOk, IfErr};
 ghost use Rattle.ff_poly.specs.Limits.{IsEquation};
 ghost use Rattle.ff_data.specs.Orders.{IsSep};
 ghost use Rattle.ff_list.specs.Lists.{IsAdmitted, AreAdmitted, AreBothOrders, IsRefused};
-ghost use Rattle.ff_list.specs.Lists.{IsPointOf, HasRationalPlace, HaveNoPlace};
+ghost use Rattle.ff_const.specs.Irreducible.{IsIrreducible};
+ghost use Rattle.ff_list.specs.Lists.{IsPointOf, HaveNoPlace, IsFirstAt};
 ghost use Rattle.ff_list.specs.Searches.{ArePlaces, IsFormed, IsStart};
 ghost use Rattle.ff_list.specs.Searches.{IsStartFault, HasNoStart, AreKept};
 
@@ -54,9 +55,16 @@ fn start_at<K: FiniteField<E = u32>>(
 ) -> Result<Start, StartFault>
     requires index { found.index < length places.items }
     requires system { IsFormed (K.lawful curve.now.alg.k) curve.now.alg.f found.system }
-    requires place { HasRationalPlace (K.lawful curve.now.alg.k) curve.now.alg.f }
+    requires places { let c = curve.now in let L = K.lawful c.alg.k in
+        ArePlaces L c.alg.f c.finite c.infinite places.items }
+    requires first { let c = curve.now in let L = K.lawful c.alg.k in
+        IsIrreducible L c.alg.f →
+        IsFirstAt L c.alg.f c.finite c.infinite places.items found.index found.system }
     ensures places { IfOk result (λ r. r.places ≡ places) }
     ensures start { let c = curve.now in IfOk result (IsStart (K.lawful c.alg.k) c.alg.f) }
+    ensures first { let c = curve.now in let L = K.lawful c.alg.k in
+        IsIrreducible L c.alg.f → IfOk result (λ r.
+        IsFirstAt L c.alg.f c.finite c.infinite r.places.items r.index r.system) }
     ensures fault { let c = curve.now in let L = K.lawful c.alg.k in
         IfErr result (IsStartFault L c.alg.f c.finite c.infinite) }
 {
@@ -85,6 +93,9 @@ fn start_among<K: FiniteField<E = u32>>(
     ensures places { let c = curve.now in let L = K.lawful c.alg.k in
         IfOk result (λ r. ArePlaces L c.alg.f c.finite c.infinite r.places.items) }
     ensures start { let c = curve.now in IfOk result (IsStart (K.lawful c.alg.k) c.alg.f) }
+    ensures first { let c = curve.now in let L = K.lawful c.alg.k in
+        IsIrreducible L c.alg.f → IfOk result (λ r.
+        IsFirstAt L c.alg.f c.finite c.infinite r.places.items r.index r.system) }
     ensures fault { let c = curve.now in let L = K.lawful c.alg.k in
         IfErr result (IsStartFault L c.alg.f c.finite c.infinite) }
 {
@@ -112,6 +123,9 @@ fn start_in<K: FiniteField<E = u32>>(
     ensures places { let c = curve.now in let L = K.lawful c.alg.k in
         IfOk result (λ r. ArePlaces L c.alg.f c.finite c.infinite r.places.items) }
     ensures start { let c = curve.now in IfOk result (IsStart (K.lawful c.alg.k) c.alg.f) }
+    ensures first { let c = curve.now in let L = K.lawful c.alg.k in
+        IsIrreducible L c.alg.f → IfOk result (λ r.
+        IsFirstAt L c.alg.f c.finite c.infinite r.places.items r.index r.system) }
     ensures fault { let c = curve.now in let L = K.lawful c.alg.k in
         IfErr result (IsStartFault L c.alg.f c.finite c.infinite) }
 {
@@ -134,6 +148,9 @@ pub fn start_of<K: FiniteField<E = u32>>(
     ensures places { let c = curve.now in let L = K.lawful c.alg.k in
         IfOk result (λ r. ArePlaces L c.alg.f c.finite c.infinite r.places.items) }
     ensures start { let c = curve.now in IfOk result (IsStart (K.lawful c.alg.k) c.alg.f) }
+    ensures first { let c = curve.now in let L = K.lawful c.alg.k in
+        IsIrreducible L c.alg.f → IfOk result (λ r.
+        IsFirstAt L c.alg.f c.finite c.infinite r.places.items r.index r.system) }
     ensures fault { let c = curve.now in let L = K.lawful c.alg.k in
         IfErr result (IsStartFault L c.alg.f c.finite c.infinite) }
 {
@@ -186,8 +203,9 @@ fn point_of<K: FiniteField<E = u32>>(curve: &Curve<K>, places: Vec<Point>, index
     requires places { let c = curve.now in
         ArePlaces (K.lawful c.alg.k) c.alg.f c.finite c.infinite places.items }
     requires index { index < length places.items }
-    ensures { let c = curve.now in
+    ensures point { let c = curve.now in
         IsPointOf (K.lawful c.alg.k) c.alg.f c.finite c.infinite result }
+    ensures at { (d : Point) → get_or places.items index d ≡ result }
 {
     let _curve = curve;
     let mut items = places;
@@ -205,6 +223,8 @@ fn parts_of<K: FiniteField<E = u32>>(
     requires places { let L = K.lawful one.alg.k in
         ArePlaces L one.alg.f one.finite one.infinite start.places.items }
     requires start { IsStart (K.lawful one.alg.k) one.alg.f start }
+    requires first { let L = K.lawful one.alg.k in IsIrreducible L one.alg.f →
+        IsFirstAt L one.alg.f one.finite one.infinite start.places.items start.index start.system }
     requires sep2 { IsSep (K.lawful one.alg.k) second.now two.sep }
     requires orders2 { AreBothOrders (K.lawful one.alg.k) second.now two.finite two.infinite }
     ensures { AreKept (K.lawful one.alg.k) one.alg.f second.now result }
@@ -275,7 +295,9 @@ fn kept_from<K: FiniteField<E = u32>>(
 /// within the pole limit, with one there of a gap number above 1.
 ///
 /// The refusals come in this order: those of the first equation, those of the second one,
-/// `NoRationalPlace`, `PoleLimit` and `SmallGenus`. This project's own.
+/// `NoRationalPlace` where the first field has no point, `PoleLimit` where none of its points has a
+/// pole system within the pole limit, and `SmallGenus` where the gap number of the one of the first
+/// point that has one is 0 or 1. This project's own.
 pub fn kept<K: FiniteField<E = u32>>(
     alloc: Global,
     k: &K,

@@ -2,10 +2,12 @@
 ghost use Rattle.std.specs.Prelude.{◌≡◌, IfOk, IfSome};
 ghost use Rattle.ff_data.specs.Orders.{IsOrder};
 ghost use Rattle.ff_forms.specs.declared.functions.TheConstants.{POLE_LIMIT};
-ghost use Rattle.ff_forms.specs.Forms.{HasPointForm, IsWithinLimit};
+ghost use Rattle.ff_forms.specs.Forms.{HasPointForm, IsWithinLimit, AreAlike};
+ghost use Rattle.ff_systems.specs.Places.{IsPlace};
 ghost use Rattle.ff_functions.specs.Searches.{HasWeights};
 ghost use Rattle.ff_ring.specs.Ring.{HasTable};
 ghost use Rattle.ff_describe.specs.Described.{IsDescribed};
+ghost use Rattle.ff_poles.specs.Found.{IsSystemAt};
 
 use ff_alg::{FiniteField, NoMemory};
 use ff_data::{Order, Point, System};
@@ -15,9 +17,9 @@ use ff_functions::functions_at;
 use std::alloc::Global;
 
 /// The pole system of a point of an order, where `other` is the order of the other chart: of its
-/// least functions, as `functions_at` finds them. None comes where there are no such functions up
-/// to `POLE_LIMIT`, where their weights are not those of `like`, and where a product, x or y is not
-/// written. `NoMemory` is the only error. This project's own.
+/// least functions, as `functions_at` finds them. None comes where there is no pole system of the
+/// point within `POLE_LIMIT`, or none with e and the weights of `like`, if there is one. `NoMemory`
+/// is the only error. This project's own.
 pub fn find_system<K: FiniteField<E = u32>>(
     alloc: Global,
     alg: &Alg<K>,
@@ -35,6 +37,11 @@ pub fn find_system<K: FiniteField<E = u32>>(
     ensures ring { let F = K.elements alg.now.k in IfOk result (λ o. IfSome o (HasTable F)) }
     ensures described { let L = K.lawful alg.now.k in let f = alg.now.f in
         IfOk result (λ o. IfSome o (IsDescribed L f POLE_LIMIT)) }
+    ensures exact { let L = K.lawful alg.now.k in let f = alg.now.f in let o = order.now in
+        let p = point.now in
+        let alike = λ (s : System). IfSome like.entry (λ t. AreAlike s t.now) in
+        IsPlace L f o p other.now →
+        IfOk result (IsSystemAt L f o p other.now POLE_LIMIT alike) }
 {
     match functions_at(alloc, alg, order, other, point, like)? {
         None => Ok(None),

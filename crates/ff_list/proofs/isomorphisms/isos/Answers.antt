@@ -1,4 +1,4 @@
-use Rattle.std.proofs.Common.{◌≡◌, IfErr, subst}
+use Rattle.std.proofs.Common.{IfErr, subst}
 use Rattle.ff_list.specs.Lists.{IsRefused}
 use Rattle.ff_list.proofs.isomorphisms.isos.Goals as goal
 

@@ -4,7 +4,7 @@ use Rattle.ff_data.specs.declared.point.Point.{Point}
 use Rattle.ff_data.specs.Points.{IsPoint}
 use Rattle.ff_data.proofs.LocalMaximal.{maximal_closed}
 use Rattle.ff_forms.specs.Forms.{HasPointForm}
-use Rattle.ff_points.specs.PointLists.{IsOneOf}
+use Rattle.ff_points.specs.PointLists.{IsOneOf, AreRising}
 use Rattle.ff_list.specs.Searches.{ArePlaces}
 use Rattle.ff_list.proofs.PlaceForms.{all-places}
 use Rattle.ff_list.proofs.places.places_of.Goals as goal
@@ -39,5 +39,6 @@ returns g c =
     (subst (λ t. (p : Point) → IsPoint L f curve.infinite p → IsOneOf t p) i
     (c.in_ok-infinite.ensures.complete ic))
     (subst (λ t. (p : Point) → IsPoint L f curve.finite p → IsOneOf t p) j
-    (c.in_ok-finite.ensures.complete fc)) e)
+    (c.in_ok-finite.ensures.complete fc)) (subst (AreRising F) i c.in_ok-infinite.ensures.rising)
+    (subst (AreRising F) j c.in_ok-finite.ensures.rising) e)
     c.joined.ensures

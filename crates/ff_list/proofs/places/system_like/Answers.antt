@@ -8,4 +8,4 @@ system_at-requires g c = record {
 }
 
 pub returns : goal.returns
-returns g c = c.system_at.ensures
+returns g c = c.system_at.ensures.form

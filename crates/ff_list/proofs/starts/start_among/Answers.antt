@@ -1,14 +1,16 @@
-use Rattle.ff_list.proofs.PlaceForms.{first-place}
+use Rattle.std.proofs.Common.{None, subst}
+use Rattle.ff_list.specs.Searches.{IsFirstIfAny}
+use Rattle.ff_list.proofs.PlaceForms.{no-system}
 use Rattle.ff_list.proofs.starts.start_among.Goals as goal
-
-pub start_at-requires-clause-place : goal.start_at-requires-clause-place
-start_at-requires-clause-place g c =
-    let curve = c.args.curve.now in
-    first-place (g.K.Ring.lawful curve.alg.k) curve.alg.f curve.finite curve.infinite
-    c.requires.places.orders c.args.places.items c.requires.nonempty c.requires.places
 
 pub returns-in-Ok-None-clause-fault : goal.returns-in-Ok-None-clause-fault
 returns-in-Ok-None-clause-fault g c =
     let curve = c.args.curve.now in
-    first-place (g.K.Ring.lawful curve.alg.k) curve.alg.f curve.finite curve.infinite
-    c.requires.places.orders c.args.places.items c.requires.nonempty c.requires.places
+    let L = g.K.Ring.lawful curve.alg.k in
+    let f = curve.alg.f in
+    let o = curve.finite in
+    let q = curve.infinite in
+    no-system L f o q c.requires.places.orders c.args.places.items c.requires.nonempty
+    c.requires.places (λ irreducible. subst (λ t. IsFirstIfAny L f o q t None)
+    c.deref.ensures.value (subst (IsFirstIfAny L f o q c.deref.result.now) c.in-Ok-None.field-0-is
+    (c.in-Ok-None.ensures.first irreducible)))
