@@ -1,4 +1,4 @@
--- Spaces of functions
-pub mod Spaces
 -- Pole systems that were found
 pub mod Found
+-- Spaces of functions
+pub mod Spaces

@@ -1,4 +1,6 @@
 // A function with a pole of a given order.
+ghost use Rattle.ff_lin.specs.Space.{rows_of};
+ghost use Rattle.ff_poles.specs.Spaces.{IsFirstOutside, IsPicked};
 ghost use Rattle.std.specs.Prelude.{◌≡◌, ◌+◌, ◌<◌, ◌≤◌, ◌++◌, length, IfOk, IfSome};
 ghost use Rattle.ff_lin.specs.Space.{AreVectors};
 ghost use Rattle.ff_elem.specs.Elem.{IsElem};
@@ -35,6 +37,8 @@ fn first_outside<K: FiniteField<E = u32>>(
 ) -> Result<usize, NoMemory>
     requires vectors { AreVectors (K.elements k.now) len vectors.now }
     requires within { n ≤ length vectors.now }
+    ensures outside { let F = K.elements k.now in
+        IfOk result (IsFirstOutside F (rows_of vectors.now) n) }
 {
     let space = Space::span(alloc, k, len, &vectors[0..n])?;
     for i in n..vectors.len() {
@@ -54,7 +58,10 @@ pub fn pick<K: FiniteField<E = u32>>(
 ) -> Result<Option<Elem>, NoMemory>
     requires lower { AreElems (K.lawful alg.now.k) alg.now.f lower.now }
     requires upper { AreElems (K.lawful alg.now.k) alg.now.f upper.now }
-    ensures { let L = K.lawful alg.now.k in IfOk result (λ o. IfSome o (IsElem L alg.now.f)) }
+    ensures elem { let L = K.lawful alg.now.k in
+        IfOk result (λ o. IfSome o (IsElem L alg.now.f)) }
+    ensures picked { let L = K.lawful alg.now.k in
+        IfOk result (IsPicked L alg.now.f lower.now upper.now) }
 {
     let list = joined(alloc, lower, upper)?;
     let (len, vectors) = flatten(alloc, alg, &list)?;

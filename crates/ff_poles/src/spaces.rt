@@ -1,10 +1,11 @@
 // The pole system of the spaces of a point.
-ghost use Rattle.std.specs.Prelude.{◌≡◌, ◌+◌, ◌-◌, ◌^◌, ◌<◌, ◌≤◌, length, IfOk, IfSome};
+ghost use Rattle.std.specs.Prelude.{◌≡◌, ◌+◌, ◌-◌, ◌^◌, ◌<◌, ◌≤◌, length, IfOk, IfSome, Some};
 ghost use Rattle.std.specs.List.{All};
 ghost use Rattle.ff_elem.specs.Elem.{IsElem};
 ghost use Rattle.ff_data.specs.Combinations.{AreElems};
 ghost use Rattle.ff_describe.specs.Described.{IsDescribed};
-ghost use Rattle.ff_poles.specs.Spaces.{HaveElems};
+ghost use Rattle.ff_poles.specs.Spaces.{HaveElems, IsFunctionWhere, AreFunctionsWhere};
+ghost use Rattle.ff_poles.specs.Spaces.{IsSystemOfFunctions, AreNumbersOf, IsSystemOfSpaces};
 
 use crate::numbers::{first_number, least_numbers};
 use crate::pick::pick;
@@ -24,7 +25,10 @@ fn function<K: FiniteField<E = u32>>(
 ) -> Result<Option<Elem>, NoMemory>
     requires spaces { HaveElems (K.lawful alg.now.k) alg.now.f spaces.now }
     requires index { m < length spaces.now }
-    ensures { let L = K.lawful alg.now.k in IfOk result (λ o. IfSome o (IsElem L alg.now.f)) }
+    ensures elem { let L = K.lawful alg.now.k in
+        IfOk result (λ o. IfSome o (IsElem L alg.now.f)) }
+    ensures exact { let L = K.lawful alg.now.k in
+        IfOk result (IsFunctionWhere L alg.now.f spaces.now m) }
 {
     if m == 0 {
         let one = alg.one(alloc)?;
@@ -47,6 +51,8 @@ fn functions_for<K: FiniteField<E = u32>>(
     ensures count { IfOk result (λ o. IfSome o (λ v. length v.items ≡ length numbers.now)) }
     ensures elems { let L = K.lawful alg.now.k in
         IfOk result (λ o. IfSome o (λ v. AreElems L alg.now.f v.items)) }
+    ensures exact { let L = K.lawful alg.now.k in
+        IfOk result (AreFunctionsWhere L alg.now.f spaces.now numbers.now) }
 {
     let mut list = Vec::with_capacity(alloc, numbers.len())?;
     for i in 0..numbers.len() {
@@ -86,8 +92,10 @@ fn described<K: FiniteField<E = u32>>(
     requires some { 0 < length numbers.now }
     requires few { length numbers.now ≤ limit }
     requires within { All (λ m. m ≤ limit) numbers.now }
-    ensures { let L = K.lawful alg.now.k in let f = alg.now.f in
+    ensures described { let L = K.lawful alg.now.k in let f = alg.now.f in
         IfOk result (λ o. IfSome o (IsDescribed L f limit)) }
+    ensures exact { let L = K.lawful alg.now.k in let f = alg.now.f in
+        IfOk result (IsSystemOfFunctions L f limit z b.items numbers.now) }
 {
     let weights = narrowed(alloc, numbers)?;
     let functions = Functions {
@@ -113,8 +121,13 @@ fn with_z<K: FiniteField<E = u32>>(
     requires some { 0 < length numbers.now }
     requires few { length numbers.now < length spaces.now }
     requires within { All (λ m. m < length spaces.now) numbers.now }
-    ensures { let L = K.lawful alg.now.k in let f = alg.now.f in
+    requires pole { let L = K.lawful alg.now.k in let m = length numbers.now in
+        IsFunctionWhere L alg.now.f spaces.now m (Some z) }
+    requires numbers { AreNumbersOf spaces.now numbers.now }
+    ensures described { let L = K.lawful alg.now.k in let f = alg.now.f in
         IfOk result (λ o. IfSome o (IsDescribed L f (length spaces.now - 1))) }
+    ensures exact { let L = K.lawful alg.now.k in
+        IfOk result (IsSystemOfSpaces L alg.now.f spaces.now) }
 {
     match functions_for(alloc, alg, spaces, numbers)? {
         None => Ok(None),
@@ -134,8 +147,11 @@ fn with_numbers<K: FiniteField<E = u32>>(
     requires some { 0 < length numbers.now }
     requires few { length numbers.now < length spaces.now }
     requires within { All (λ m. m < length spaces.now) numbers.now }
-    ensures { let L = K.lawful alg.now.k in let f = alg.now.f in
+    requires numbers { AreNumbersOf spaces.now numbers.now }
+    ensures described { let L = K.lawful alg.now.k in let f = alg.now.f in
         IfOk result (λ o. IfSome o (IsDescribed L f (length spaces.now - 1))) }
+    ensures exact { let L = K.lawful alg.now.k in
+        IfOk result (IsSystemOfSpaces L alg.now.f spaces.now) }
 {
     match function(alloc, alg, spaces, numbers.len())? {
         None => Ok(None),
@@ -146,9 +162,9 @@ fn with_numbers<K: FiniteField<E = u32>>(
 /// A system of the spaces L_0, L_1, .. of one point: e is the least positive pole number, z has a
 /// pole of that order, and the b_i poles of the least order in their class modulo e, by the
 /// dimensions of the spaces. Its table writes the products of the b_i, and x and y are written,
-/// with all weights up to the index J of the last space. None comes where there is no such e or no
-/// pole number of a class up to J, and where a product, x or y is not written. `NoMemory` is the
-/// only error. This project's own.
+/// with all weights up to the index J of the last space. Where the equation is irreducible and the
+/// spaces are those of a point of maximal orders, it is a pole system within J, and None comes only
+/// where there is none. `NoMemory` is the only error. This project's own.
 pub fn system<K: FiniteField<E = u32>>(
     alloc: Global,
     alg: &Alg<K>,
@@ -156,8 +172,10 @@ pub fn system<K: FiniteField<E = u32>>(
 ) -> Result<Option<System>, NoMemory>
     requires spaces { HaveElems (K.lawful alg.now.k) alg.now.f spaces.now }
     requires small { length spaces.now ≤ 2 ^ 31 }
-    ensures { let L = K.lawful alg.now.k in let f = alg.now.f in
+    ensures described { let L = K.lawful alg.now.k in let f = alg.now.f in
         IfOk result (λ o. IfSome o (IsDescribed L f (length spaces.now - 1))) }
+    ensures exact { let L = K.lawful alg.now.k in
+        IfOk result (IsSystemOfSpaces L alg.now.f spaces.now) }
 {
     let e = first_number(spaces);
     if e == 0 || e >= spaces.len() {
