@@ -87,7 +87,7 @@ module _ (K : Field) where
       go : (i : ℕ) × (size K.ring h.0 ≡ suc i) → (j : ℕ) × (size K.ring a ≡ suc j)
           → size K.ring a ≤ size K.ring b
       go i j = let s : size K.ring b ≡ suc (i.0 + j.0) = ap (size K.ring) h.1
-          ∙ size-mul K.ring K.laws K.tests K.inverse K.is_field h.0 a i.0 j.0 i.1 j.1 in
+          ∙ size-mul K h.0 a i.0 j.0 i.1 j.1 in
           omega (arith, s, j.1)
 
   -- the sizes of equal products
@@ -104,14 +104,14 @@ module _ (K : Field) where
           → size K.ring a ≤ pred (size K.ring b)
       go zero ei j ej m n = omega (arith, ei)
       go (suc i) ei zero ej m n = absurd (let s : size K.ring (R.mul a d) ≡ suc (i + n.0) = size-mul
-          K.ring K.laws K.tests K.inverse K.is_field a d i n.0 ei n.1 in
+          K a d i n.0 ei n.1 in
           let z : size K.ring (R.mul a d) ≡ 0 = ap (size K.ring) (e
-          ∙ ap (λ t. R.mul t b) (no_size K.ring K.laws K.tests K.inverse K.is_field c ej)
+          ∙ ap (λ t. R.mul t b) (no_size K c ej)
           ∙ zero_mul R D.laws b) ∙ zero_size K in omega (arith, s, z))
       go (suc i) ei (suc j) ej m n = let s : size K.ring (R.mul a d) ≡ suc (i + n.0) = size-mul
-          K.ring K.laws K.tests K.inverse K.is_field a d i n.0 ei n.1 in
+          K a d i n.0 ei n.1 in
           let t : size K.ring (R.mul c b) ≡ suc (j + m.0) = size-mul
-          K.ring K.laws K.tests K.inverse K.is_field c b j m.0 ej m.1 in
+          K c b j m.0 ej m.1 in
           let w : size K.ring (R.mul a d) ≡ size K.ring (R.mul c b) = ap (size K.ring) e in
           let p : pred (size K.ring d) ≡ n.0 = ap pred n.1 in
           let q : pred (size K.ring b) ≡ m.0 = ap pred m.1 in

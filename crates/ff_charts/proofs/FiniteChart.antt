@@ -29,6 +29,7 @@ use Rattle.ff_theory.proofs.Element.{element_clear}
 use Rattle.ff_theory.proofs.Element.{lowest_nonzero, cancel_row}
 use Rattle.ff_theory.proofs.Element.{equation}
 use Rattle.ff_theory.proofs.Constants.{constant_map}
+use Rattle.ff_theory.proofs.Domains.{zero_factor}
 use Rattle.ff_theory.specs.Monic.{monic_form}
 use Rattle.ff_charts.specs.Chart.{Chart, at_u, at_theta, Cleared, IsChart}
 use Rattle.ff_charts.specs.FieldCharts.{leading_row, y_monic, finite_chart}
@@ -47,14 +48,6 @@ module _ (D : Domain) where
       → D.same (power D.ring a n) D.zero ≡ false
   power_nonzero a h zero = D.proper
   power_nonzero a h (suc n) = D.no_divisors a (power D.ring a n) h (power_nonzero a h n)
-
-  -- what a factor that is not 0 makes 0 is 0
-  pub zero_factor : (a b : D.carrier) → D.same b D.zero ≡ false → D.mul a b ≡ D.zero → a ≡ D.zero
-  zero_factor a b nb e = go (D.same a D.zero) refl
-    where
-      go : (t : Bool) → D.same a D.zero ≡ t → a ≡ D.zero
-      go true h = D.tests.same_true a D.zero h
-      go false h = absurd (not_same D.ring D.tests (D.mul a b) D.zero (D.no_divisors a b h nb) e)
 
 module _ (K : Field) (f : Plane K) (n : ℕ) (has : size (polynomials K.ring) f ≡ suc n) where
   abbrev A : RingOps
@@ -340,7 +333,7 @@ module _ (K : Field) (f : Plane K) (n : ℕ) (has : size (polynomials K.ring) f 
     cleared = cleared;
     one_unit = one_size K;
     unit_product = λ s t hs ht. let e : size K.ring (D.mul s t)
-        ≡ suc (plus_ℕ 0 0) = size-mul K.ring K.laws K.tests K.inverse K.is_field s t 0 0 hs ht in e;
+        ≡ suc (plus_ℕ 0 0) = size-mul K s t 0 0 hs ht in e;
     one_modulus = D.proper;
     modulus_product = D.no_divisors;
     modulus_nonzero = λ m h. h;

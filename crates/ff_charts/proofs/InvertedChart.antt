@@ -20,6 +20,7 @@ use Rattle.ff_theory.proofs.Poly.{Poly_path, trim_same, trim-coeff}
 use Rattle.ff_theory.proofs.Division.{x, size_le, coeff-beyond}
 use Rattle.ff_theory.proofs.Evaluate.{eval_map}
 use Rattle.ff_theory.proofs.PolyMap.{polynomial_domain, not_same, same_false, one_size}
+use Rattle.ff_theory.proofs.Domains.{zero_factor}
 use Rattle.ff_theory.specs.Planes.{planes, Plane}
 use Rattle.ff_charts.specs.Chart.{Chart, at_u, at_theta, Cleared, IsChart}
 use Rattle.ff_theory.specs.Reversal.{reversal, reversed, Fits}
@@ -32,7 +33,7 @@ use Rattle.ff_charts.proofs.VariablePowers.{zeros, after_zeros, splits_list, sta
 use Rattle.ff_charts.proofs.VariablePowers.{one_at_zero}
 use Rattle.ff_charts.proofs.VariablePowers.{product_at_zero, coprime_power}
 use Rattle.ff_charts.proofs.Chart.{at_u_map}
-use Rattle.ff_charts.proofs.FiniteChart.{power_split, power_nonzero, zero_factor}
+use Rattle.ff_charts.proofs.FiniteChart.{power_split, power_nonzero}
 
 -- a bound of finitely many numbers
 pub bound : (n : ℕ) (g : ℕ → ℕ) → (b : ℕ) × ((i : ℕ) → i < n → g i ≤ b)

@@ -40,10 +40,10 @@ module _ (K : Field) where
     where
       go : (j : ℕ) → size K.ring w ≡ j → (k : ℕ) × (size K.ring m ≡ suc k) → h
           ≡ (polynomials K.ring).zero
-      go zero z k = e ∙ ap (D.mul m) (no_size K.ring K.laws K.tests K.inverse K.is_field w z)
+      go zero z k = e ∙ ap (D.mul m) (no_size K w z)
           ∙ mul_zero D.ring D.laws m
       go (suc j) z k = let s : size K.ring h ≡ suc (plus_ℕ k.0 j) = ap (size K.ring) e
-          ∙ size-mul K.ring K.laws K.tests K.inverse K.is_field m w k.0 j k.1 z in
+          ∙ size-mul K m w k.0 j k.1 z in
           let p : pred (size K.ring m) ≡ k.0 = ap pred k.1 in absurd (omega (arith, s, p, small))
 
   -- rows that differ by a constant in x
@@ -143,13 +143,13 @@ module _ (K : Field) (A : RingOps) (AL : IsCommRing A) (c : Chart K.ring A) (l :
         n = c.degree
 
         low : ℕ → Poly K.ring
-        low i = remainder_of K.ring K.laws K.tests K.inverse K.is_field m k.0 k.1 (row_at N i)
+        low i = remainder_of K m k.0 k.1 (row_at N i)
 
         high : ℕ → Poly K.ring
-        high i = quotient_of K.ring K.laws K.tests K.inverse K.is_field m k.0 k.1 (row_at N i)
+        high i = quotient_of K m k.0 k.1 (row_at N i)
 
         division : (i : ℕ) → IsDivision K.ring (row_at N i) m (high i) (low i)
-        division i = divides K.ring K.laws K.tests K.inverse K.is_field m k.0 k.1 (row_at N i)
+        division i = divides K m k.0 k.1 (row_at N i)
 
         each : (i : ℕ) → (i < n) ⊎ (n ≤ i)
             → size K.ring (row_at (polynomial_of (polynomials K.ring) P.laws P.tests n low) i)
@@ -257,7 +257,7 @@ module _ (K : Field) (A : RingOps) (AL : IsCommRing A) (c : Chart K.ring A) (l :
         each i q = small_multiple K m (P.add (P.mul cop.v (row_at N i)) (P.mul cop.u (row_at M.0
             i)))
             (row_at N i) (l.modulus_nonzero m hm)
-            (coprime_divides K.ring K.laws K.tests K.inverse K.is_field m p.unit (row_at N i)
+            (coprime_divides K m p.unit (row_at N i)
             (row_at M.0 i) cop.v cop.u (P.laws.add_comm (P.mul cop.v m) (P.mul cop.u p.unit)
             ∙ cop.one)
             (sym (const_mul_at (polynomials K.ring) P.laws P.tests p.unit N i)
@@ -405,7 +405,7 @@ module _ (K : Field) (A : RingOps) (AL : IsCommRing A) (c : Chart K.ring A) (l :
                 → size K.ring (P.mul g h) ≤ pred (size K.ring (P.mul g m))
             fit h q a b = let x : pred (size K.ring m) ≡ b.0 = ap pred b.1 in
                 let y : pred (size K.ring (P.mul g m))
-                ≡ plus_ℕ a.0 b.0 = ap pred (size-mul K.ring K.laws K.tests K.inverse K.is_field g
+                ≡ plus_ℕ a.0 b.0 = ap pred (size-mul K g
                 m a.0 b.0 a.1 b.1) in
                 let z : size K.ring (P.mul g h) ≤ plus_ℕ a.0 b.0 = size-mul-le K.ring K.laws K.tests
                 g

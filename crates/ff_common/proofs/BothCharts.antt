@@ -264,22 +264,22 @@ module _ (F : Elements ℕ) (L : Lawful F) (f : List (List ℕ)) (hf : IsPlane F
       by = (polynomials F.ring).mul (variable F.ring) d
 
       by_size : size F.ring ((polynomials F.ring).mul (variable F.ring) d) ≡ suc (suc k)
-      by_size = let s : size F.ring (P.mul X d) ≡ suc (plus_ℕ 1 k) = size-mul F.ring L.laws L.tests
-          K.inverse K.is_field X d 1 k (variable_size K) hd in omega (arith, s)
+      by_size = let s : size F.ring (P.mul X d) ≡ suc (plus_ℕ 1 k) = size-mul K X d 1 k
+          (variable_size K) hd in omega (arith, s)
 
       abbrev high : ℕ → Poly F.ring
       high i = (polynomials F.ring).mul (power (polynomials F.ring) (variable F.ring)
           (times_ℕ (plus_ℕ 0 i) (slope_of L f))) (coeff (polynomials F.ring) N.coeffs i)
 
       Q : ℕ → Poly F.ring
-      Q i = quotient_of F.ring L.laws L.tests K.inverse K.is_field by (suc k) by_size (high i)
+      Q i = quotient_of K by (suc k) by_size (high i)
 
       R : ℕ → Poly F.ring
-      R i = remainder_of F.ring L.laws L.tests K.inverse K.is_field by (suc k) by_size (high i)
+      R i = remainder_of K by (suc k) by_size (high i)
 
       division : (i : ℕ) → IsDivision F.ring (high i) by (Q i) (R i)
       unfolding Q R
-      division i = divides F.ring L.laws L.tests K.inverse K.is_field by (suc k) by_size (high i)
+      division i = divides K by (suc k) by_size (high i)
 
       longest : (b : ℕ) × ((i : ℕ) → i < (chart_of L f Finite).degree → size F.ring (Q i) ≤ b)
       longest = bound C.degree (λ i. size F.ring (Q i))

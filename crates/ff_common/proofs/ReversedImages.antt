@@ -168,7 +168,7 @@ module _ (F : Elements ℕ) (L : Lawful F) (d : List ℕ) (hd : IsPoly F d) (non
         L.tests F.value p hp.canonical in
         let z : size F.ring (DP.mul (variable F.ring) (poly_of F d))
         ≡ suc (plus_ℕ 1 (pred (length d)))
-        = size-mul F.ring L.laws L.tests DK.inverse DK.is_field (variable F.ring) (poly_of F d) 1
+        = size-mul DK (variable F.ring) (poly_of F d) 1
         (pred (length d)) (variable_size DK) d_size in
         omega (arith, s, z, ap (size F.ring) (e ∙ by_is))
 

@@ -35,7 +35,7 @@ module _ (K : Field) where
     where
       go : (k : ℕ) → size K.ring p ≡ k → (j : ℕ) × (size K.ring p ≡ suc j)
       go zero e = absurd (not_same (polynomials K.ring) D.tests p D.zero h
-          (no_size K.ring K.laws K.tests K.inverse K.is_field p e))
+          (no_size K p e))
       go (suc j) e = (j, e)
 
   -- in d * p = e * q, p is not much longer than e where q is not much longer than d
@@ -51,16 +51,16 @@ module _ (K : Field) where
       go zero hp l hq = omega (arith, hp)
       go (suc k) hp zero hq = absurd
           (let a : size K.ring (D.mul d p)
-          ≡ suc (s + k) = size-mul K.ring K.laws K.tests K.inverse K.is_field d p s k hd hp in
+          ≡ suc (s + k) = size-mul K d p s k hd hp in
           let z : size K.ring (D.mul e q)
-          ≡ 0 = ap (size K.ring) (ap (D.mul e) (no_size K.ring K.laws K.tests K.inverse
-          K.is_field q hq) ∙ mul_zero D.ring D.laws e) ∙ refl in
+          ≡ 0 = ap (size K.ring) (ap (D.mul e) (no_size K q hq) ∙ mul_zero D.ring D.laws e)
+          ∙ refl in
           let b : size K.ring (D.mul d p)
           ≡ size K.ring (D.mul e q) = ap (size K.ring) same in omega (arith, a, z, b))
       go (suc k) hp (suc l) hq = let a : size K.ring (D.mul d p)
-          ≡ suc (s + k) = size-mul K.ring K.laws K.tests K.inverse K.is_field d p s k hd hp in
+          ≡ suc (s + k) = size-mul K d p s k hd hp in
           let z : size K.ring (D.mul e q)
-          ≡ suc (t + l) = size-mul K.ring K.laws K.tests K.inverse K.is_field e q t l he hq in
+          ≡ suc (t + l) = size-mul K e q t l he hq in
           let b : size K.ring (D.mul d p)
           ≡ size K.ring (D.mul e q) = ap (size K.ring) same in omega
           (arith, a, z, b, hp, hq, hd, he, small)
@@ -94,7 +94,7 @@ module _ (K : Field) where
           → size K.ring q ≤ size K.ring (D.mul p q)
       go e zero hq = omega (arith, hq)
       go e (suc k) hq = let z : size K.ring (D.mul p q)
-          ≡ suc (e.0 + k) = size-mul K.ring K.laws K.tests K.inverse K.is_field p q e.0 k e.1 hq in
+          ≡ suc (e.0 + k) = size-mul K p q e.0 k e.1 hq in
           omega (arith, z, hq)
 
 module _ (K : Field) (f : Plane K) (n : ℕ) (has : size (polynomials K.ring) f ≡ suc n) where

@@ -18,17 +18,18 @@ use Rattle.ff_theory.proofs.FrobeniusPoly.{map-power}
 use Rattle.ff_theory.proofs.Sums.{sum-ext, sum-zero, sum-add, sum-mul, sum-swap}
 use Rattle.ff_theory.proofs.Division.{x, size_le}
 use Rattle.ff_theory.proofs.Evaluate.{eval_map}
-use Rattle.ff_theory.proofs.PolyMap.{polynomial_domain, not_same, same_false}
+use Rattle.ff_theory.proofs.PolyMap.{polynomial_domain, not_same}
 use Rattle.ff_theory.specs.Planes.{planes, Plane, row_of}
 use Rattle.ff_charts.specs.Chart.{Chart, at_u, at_theta, Cleared, InPowers, IsChart}
 use Rattle.ff_theory.specs.Span.{Dependence}
 use Rattle.ff_theory.proofs.Insert.{skip}
 use Rattle.ff_theory.proofs.Dependence.{dependence}
+use Rattle.ff_theory.proofs.Domains.{zero_factor}
 use Rattle.ff_charts.proofs.Rows.{polynomial_of, polynomial_at, polynomial_past, polynomial_size}
 use Rattle.ff_charts.proofs.Rows.{equal_below, exact_size, value_sum, value_of_listed}
 use Rattle.ff_charts.proofs.MonicDivision.{Divided, monic_divide}
 use Rattle.ff_charts.proofs.Chart.{at_u_map, at_theta_map, row_times, cancel_u, reduced}
-use Rattle.ff_charts.proofs.FiniteChart.{power_nonzero, zero_factor}
+use Rattle.ff_charts.proofs.FiniteChart.{power_nonzero}
 use Rattle.ff_charts.proofs.InvertedChart.{at_x}
 use Rattle.ff_conductor.proofs.Trace.{trace_identity}
 use Rattle.ff_conductor.proofs.PowerParts.{power-sums, power-exchange, HasRoots}
@@ -254,9 +255,6 @@ module _ (K : Field) (A : RingOps) (AL : IsCommRing A) (c : Chart K.ring A) (l :
           ∙ ap (λ t. t * power A Θ j) (sym (U.on_add _ _ ∙ ap₂ A.add (U.on_mul _ _) (U.on_neg _ ∙ ap
           minus (U.on_mul _ _)))))
 
-      domain : (a b : Poly K.ring) → P.mul a b ≡ P.zero → ¬ (b ≡ P.zero) → a ≡ P.zero
-      domain a b h nb = zero_factor P a b (same_false (polynomials K.ring) P.tests b P.zero nb) h
-
       -- n vectors whose entry o is 0
       relation : (o m : ℕ) → o < n → n ≡ suc m
           → (polynomials K.ring).same (row_at N o) (polynomials K.ring).zero ≡ false
@@ -321,9 +319,8 @@ module _ (K : Field) (A : RingOps) (AL : IsCommRing A) (c : Chart K.ring A) (l :
 
       each : (i : ℕ) → i < n → (v : Bool) → P.same (row_at N i) P.zero ≡ v → row_at N i ≡ P.zero
       each i s true h = P.tests.same_true (row_at N i) P.zero h
-      each i s false h = absurd (relation i (n - 1) s (omega arith) h (dependence (polynomials
-          K.ring) P.laws P.tests (not_same (polynomials K.ring) P.tests P.one P.zero P.proper)
-          domain (n - 1) n (λ a j. w i a (skip i j)) (omega arith)))
+      each i s false h = absurd (relation i (n - 1) s (omega arith) h (dependence P
+          (n - 1) n (λ a j. w i a (skip i j)) (omega arith)))
 
   -- a common denominator of z 0, .., z (m - 1)
   record IsCleared (h : Poly K.ring) (z : A.carrier) : Type 0 where

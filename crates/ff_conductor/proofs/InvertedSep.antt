@@ -10,7 +10,7 @@ use Rattle.ff_theory.specs.Division.{size}
 use Rattle.ff_theory.specs.Planes.{Plane}
 use Rattle.ff_theory.specs.Monomial.{variable}
 use Rattle.ff_theory.specs.Reversal.{reversal, Fits}
-use Rattle.ff_theory.proofs.Solver.{◌⊗◌, nil, unit, ring1, ring2, ring3, ring4, ring6}
+use Rattle.ff_theory.proofs.Solver.{◌⊗◌, nil, unit, ring1, ring3, ring4, ring6}
 use Rattle.ff_theory.proofs.Powers.{power-add, power-mul}
 use Rattle.ff_theory.proofs.Frobenius.{power-power}
 use Rattle.ff_theory.proofs.FrobeniusPoly.{map-power}
@@ -129,7 +129,7 @@ module _ (K : Field) (A : RingOps) (AL : IsCommRing A) (c : Chart K.ring A) (l :
       go : (s : ℕ) → size K.ring (row_at i) ≡ s
           → (power A t (plus_ℕ m k) * power A U n) * (at_u c (row_at i) * power A c.theta i)
           ≡ at_u B (lifted i) * power A (A.mul E c.theta) i
-      go zero h = none (ap (at_u c) (no_size K.ring K.laws K.tests K.inverse K.is_field (row_at i)
+      go zero h = none (ap (at_u c) (no_size K (row_at i)
           h)
           ∙ map.on_zero) ∙ sym (fitting (omega (arith, h)))
       go (suc s) h = let bound : plus_ℕ (size K.ring (row_at i)) (times_ℕ (plus_ℕ n i) e)

@@ -7,8 +7,9 @@ use Rattle.ff_theory.specs.Ring.{RingOps, IsCommRing, IsTested, power, FieldOps,
 use Rattle.ff_theory.specs.Sum.{sum_below}
 use Rattle.ff_theory.specs.Span.{unit_at}
 use Rattle.ff_theory.specs.Map.{IsMap}
+use Rattle.ff_theory.specs.Lawful.{field_of}
 use Rattle.ff_theory.proofs.Solver.{◌⊕◌, ◌⊗◌, neg, nil, unit, ring1, ring2, ring3, ring4}
-use Rattle.ff_theory.proofs.Solver.{mul_zero, zero_mul}
+use Rattle.ff_theory.proofs.Solver.{zero_mul}
 use Rattle.ff_theory.proofs.Series.{tail}
 use Rattle.ff_theory.proofs.Sums.{sum-ext, sum-add, sum-mul, sum-single}
 use Rattle.ff_theory.proofs.Span.{unit-same, unit-other}
@@ -17,6 +18,7 @@ use Rattle.ff_theory.proofs.Powers.{power-mul}
 use Rattle.ff_theory.proofs.FrobeniusPoly.{map-power}
 use Rattle.ff_theory.proofs.Frobenius.{binomial, power-sum}
 use Rattle.ff_theory.proofs.Horner.{horner, horner-sum}
+use Rattle.ff_theory.proofs.Domains.{no_divisors, field_domain}
 use Rattle.ff_const.specs.Fixed.{product_below}
 use Rattle.ff_const.proofs.FiniteRoots.{product_coeffs, no-coefficients}
 use Rattle.ff_const.proofs.FiniteRoots.{product-zero, product-top, product-value}
@@ -95,10 +97,8 @@ module _ (F : FieldOps) (laws : IsCommRing F.ring) (tests : IsTested F.ring)
   k = F.ring
 
   domain : (a b : C) → ¬ (a ≡ F.zero) → a * b ≡ F.zero → b ≡ F.zero
-  domain a b na h = ring2 k laws (λ b i. b) (λ b i. unit ⊗ b) refl b b
-      ∙ ap (λ t. t * b) (sym (finite.field.mul_inverse a na))
-      ∙ ring3 k laws (λ a i b. (a ⊗ i) ⊗ b) (λ a i b. i ⊗ (a ⊗ b)) refl a (F.inverse a) b
-      ∙ ap (λ t. F.inverse a * t) h ∙ mul_zero k laws (F.inverse a)
+  domain a b na h = no_divisors (field_domain (field_of F laws tests finite)) b a
+      (laws.mul_comm b a ∙ h) na
 
   distinct : (i j : ℕ) → i < j → j < q → ¬ (F.element_at i ≡ F.element_at j)
   distinct i j l m e = absurd (let s : i ≡ j = sym (finite.index_at i (omega (arith, l, m)))
@@ -117,7 +117,7 @@ module _ (F : FieldOps) (laws : IsCommRing F.ring) (tests : IsTested F.ring)
   -- q coefficients of a polynomial that vanishes everywhere are 0
   none : (c : ℕ → C) → ((x : C) → sum_below k q (λ i. c i * power k x i) ≡ F.zero)
       → (i : ℕ) → i < q → c i ≡ F.zero
-  none c h = no-coefficients k laws domain q F.element_at distinct c
+  none c h = no-coefficients (field_domain (field_of F laws tests finite)) q F.element_at distinct c
       (λ j l. horner-sum k laws (F.element_at j) c q ∙ h (F.element_at j))
 
   identity : IsMap k k (λ a. a)

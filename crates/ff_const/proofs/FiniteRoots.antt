@@ -5,11 +5,13 @@ use Rattle.std.proofs.Common.{refl, sym, ◌∙◌, ap, ap₂, arith}
 use Rattle.std.proofs.lemmas.Bool.{cases_lt}
 use Rattle.ff_theory.specs.Ring.{RingOps, IsCommRing}
 use Rattle.ff_theory.specs.Map.{IsMap}
+use Rattle.ff_theory.specs.Lawful.{Domain}
 use Rattle.ff_theory.proofs.Solver.{◌⊕◌, ◌⊗◌, neg, nil, unit, ring1, ring2, ring3, ring4, ring6}
 use Rattle.ff_theory.proofs.Solver.{mul_zero, zero_mul}
 use Rattle.ff_theory.proofs.Series.{tail}
 use Rattle.ff_const.specs.Fixed.{product_below}
 use Rattle.ff_theory.proofs.Horner.{horner, horner-ext, horner-longer}
+use Rattle.ff_theory.proofs.Domains.{no_divisors}
 
 -- the quotient by the variable less a, of n coefficients and one more
 abbrev pub quotient_at : (R : RingOps) → R.carrier → (ℕ → R.carrier) → ℕ → ℕ → R.carrier
@@ -53,26 +55,6 @@ module _ (R : RingOps) (laws : IsCommRing R) where
   quotient-zero a c (suc n) root none (suc i) l = quotient-zero a (tail c) n (none zero (omega
       arith)) (λ j q. none (suc j) (omega (arith, q))) i (omega (arith, l))
 
-  module _ (domain : (a b : C) → ¬ (a ≡ R.zero) → a * b ≡ R.zero → b ≡ R.zero) where
-    -- n coefficients with n roots are 0
-    pub no-coefficients : (n : ℕ) (e : ℕ → C) → ((i j : ℕ) → i < j → j < n → ¬ (e i ≡ e j))
-        → (c : ℕ → C) → ((j : ℕ) → j < n → horner R (e j) c n ≡ R.zero)
-        → (i : ℕ) → i < n → c i ≡ R.zero
-    no-coefficients zero e distinct c roots = λ i l. absurd (omega (arith, l))
-    no-coefficients (suc n) e distinct c roots = quotient-zero (e n) c n (roots n (omega arith))
-        (no-coefficients n e (λ i j p q. distinct i j p (omega (arith, q)))
-        (quotient_at R (e n) c n) below)
-      where
-        below : (j : ℕ) → j < n → horner R (e j) (quotient_at R (e n) c n) n ≡ R.zero
-        below j l = domain (e j + R.neg (e n)) (horner R (e j) (quotient_at R (e n) c n) n)
-            (λ z. distinct j n l (omega arith) (ring2 R laws (λ x a. x)
-            (λ x a. (x ⊕ neg a) ⊕ a) refl (e j) (e n) ∙ ap (λ t. t + e n) z
-            ∙ ring1 R laws (λ a. nil ⊕ a) (λ a. a) refl (e n)))
-            (ring2 R laws (λ t h. t) (λ t h. nil ⊕ t) refl _ R.zero
-            ∙ ap (λ t. t + (e j + R.neg (e n)) * horner R (e j) (quotient_at R (e n) c n) n)
-            (sym (roots n (omega arith))) ∙ sym (divided (e j) (e n) c n)
-            ∙ roots j (omega (arith, l)))
-
   -- a product with the factor 0
   pub product-zero : (n k : ℕ) (f : ℕ → C) → k < n → f k ≡ R.zero → product_below R n f ≡ R.zero
   product-zero zero k f l z = absurd (omega (arith, l))
@@ -107,6 +89,32 @@ module _ (R : RingOps) (laws : IsCommRing R) where
       ∙ ring6 R laws (λ a b d x s t. (a ⊕ d ⊗ b) ⊕ x ⊗ (s ⊕ d ⊗ t))
       (λ a b d x s t. (a ⊕ x ⊗ s) ⊕ d ⊗ (b ⊕ x ⊗ t)) refl (f zero) (h zero) d x
       (horner R x (tail f) n) (horner R x (tail h) n)
+
+module _ (D : Domain) where
+  infixl 60 ◌+◌
+  infixl 70 ◌*◌
+  open D use {ring as R, laws}
+  open D.ring use {add as ◌+◌, mul as ◌*◌, carrier as C}
+
+  -- n coefficients with n roots are 0
+  pub no-coefficients : (n : ℕ) (e : ℕ → C) → ((i j : ℕ) → i < j → j < n → ¬ (e i ≡ e j))
+      → (c : ℕ → C) → ((j : ℕ) → j < n → horner R (e j) c n ≡ R.zero)
+      → (i : ℕ) → i < n → c i ≡ R.zero
+  no-coefficients zero e distinct c roots = λ i l. absurd (omega (arith, l))
+  no-coefficients (suc n) e distinct c roots = quotient-zero R laws (e n) c n
+      (roots n (omega arith))
+      (no-coefficients n e (λ i j p q. distinct i j p (omega (arith, q)))
+      (quotient_at R (e n) c n) below)
+    where
+      below : (j : ℕ) → j < n → horner R (e j) (quotient_at R (e n) c n) n ≡ R.zero
+      below j l = no_divisors D (horner R (e j) (quotient_at R (e n) c n) n) (e j + R.neg (e n))
+          (laws.mul_comm _ _ ∙ ring2 R laws (λ t h. t) (λ t h. nil ⊕ t) refl _ R.zero
+          ∙ ap (λ t. t + (e j + R.neg (e n)) * horner R (e j) (quotient_at R (e n) c n) n)
+          (sym (roots n (omega arith))) ∙ sym (divided R laws (e j) (e n) c n)
+          ∙ roots j (omega (arith, l)))
+          (λ z. distinct j n l (omega arith) (ring2 R laws (λ x a. x)
+          (λ x a. (x ⊕ neg a) ⊕ a) refl (e j) (e n) ∙ ap (λ t. t + e n) z
+          ∙ ring1 R laws (λ a. nil ⊕ a) (λ a. a) refl (e n)))
 
 -- the value of the product at an element of a ring
 pub product-value : (k A : RingOps) → IsCommRing k → (AL : IsCommRing A)

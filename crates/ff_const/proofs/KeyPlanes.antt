@@ -1,6 +1,6 @@
 -- Polynomials in x and y with the same key are the same, so that the keys of two factors of f
 -- without a common divisor differ.
-use Rattle.std.proofs.Common.{◌≡◌, ℕ, zero, suc, ◌<◌, ◌≤◌, List, [], ◌∷◌, ◌++◌, length, map, reverse}
+use Rattle.std.proofs.Common.{◌≡◌, ℕ, zero, suc, ◌≤◌, List, [], ◌∷◌, ◌++◌, length, map, reverse}
 use Rattle.std.proofs.Common.{refl, sym, ◌∙◌, ap, ap₂, subst, arith, All}
 use Rattle.std.proofs.lemmas.List.{reverse-reverse, length-map, length-reverse}
 use Rattle.std.specs.declared.cmp.Ordering.{Ordering}
@@ -11,9 +11,9 @@ use Rattle.ff_theory.specs.Poly.{polynomials}
 use Rattle.ff_theory.specs.Division.{size}
 use Rattle.ff_theory.specs.Planes.{IsDivisorOver}
 use Rattle.ff_theory.specs.Values.{plane_of, IsPoly, ArePolys}
-use Rattle.ff_factors.specs.Factors.{IsFactored, AreCoprime}
+use Rattle.ff_factors.specs.Factors.{AreCoprime}
 use Rattle.ff_factors.proofs.NormalForm.{divisor_self}
-use Rattle.ff_elem.specs.Key.{poly_key, rows_key, key_cmp}
+use Rattle.ff_elem.specs.Key.{rows_key, key_cmp}
 use Rattle.ff_elem.proofs.KeyLemmas.{key_cmp-is_equal}
 use Rattle.ff_const.specs.Keys.{plane_key}
 use Rattle.ff_const.specs.Fixed.{AreOrderedFactors}

@@ -1,10 +1,9 @@
 -- A maximal order of the finite chart holds no element but 0 whose square is 0, and elements that
 -- are their own squares are in both maximal orders, for an equation f over a field whose laws are
 -- L.
-use Rattle.std.proofs.Common.{◌≡◌, ℕ, zero, suc, pred, ◌+◌ as plus_ℕ, ◌-◌, ◌<◌, ◌≤◌, ◌⊎◌, inl, inr}
+use Rattle.std.proofs.Common.{◌≡◌, ℕ, zero, suc, ◌+◌ as plus_ℕ, ◌-◌, ◌<◌, ◌≤◌}
 use Rattle.std.proofs.Common.{List, length, Bool, true, false, refl, sym, ◌∙◌, ap, ap₂, subst}
 use Rattle.std.proofs.Common.{arith}
-use Rattle.std.proofs.lemmas.Bool.{cases_lt}
 use Rattle.ff_theory.specs.Ring.{RingOps, IsCommRing, Elements, IsElement, power}
 use Rattle.ff_theory.specs.Lawful.{Domain, Field, Lawful, lawful_field}
 use Rattle.ff_theory.specs.Map.{IsMap}
@@ -19,7 +18,7 @@ use Rattle.ff_theory.proofs.Gcd.{no_size}
 use Rattle.ff_theory.proofs.ElementEuclid.{zero_plane_size}
 use Rattle.ff_theory.proofs.Constants.{constant_map}
 use Rattle.ff_theory.proofs.Division.{size_le, size-add, size-neg, zero_from, const_mul_at}
-use Rattle.ff_theory.proofs.PolyMap.{polynomial_domain, zero_size, size_nonzero, not_same}
+use Rattle.ff_theory.proofs.PolyMap.{polynomial_domain, size_nonzero, not_same}
 use Rattle.ff_factors.specs.Factors.{IsFactored, AreCoprime}
 use Rattle.ff_factors.proofs.Idempotents.{Idempotent, coprime_split, coprime_if_reduced}
 use Rattle.ff_charts.specs.Chart.{Chart as ChartOf, at_u, at_theta, InPowers, Cleared, IsChart}
@@ -310,7 +309,7 @@ module _ (F : Elements ℕ) (L : Lawful F) (f : List (List ℕ)) (hf : IsPlane F
               (part high high-nonzero).plane.coeffs i) ≡ m
               → coeff (polynomials F.ring) (part high high-nonzero).plane.coeffs i
               ≡ (polynomials F.ring).zero
-          none zero z = no_size F.ring L.laws L.tests K.inverse K.is_field r z
+          none zero z = no_size K r z
           none (suc b) z = absurd (let k : size F.ring (coeff (polynomials F.ring) first.coeffs i)
               ≤ longest.0 = longest.1 i l in
               let x : size F.ring (P.mul (power (polynomials F.ring) (variable F.ring) longest.0)

@@ -39,7 +39,7 @@ module _ (K : Field) where
       → ((i : ℕ) → (r : Poly K.ring) × IsDivision K.ring (coeff (polynomials K.ring) N.coeffs i) d
       (coeff (polynomials K.ring) q.coeffs i) r) → q ≡ Q
   quotient_is d nd N q R Q e small h = Poly_ext D.ring D.laws D.tests q Q (λ i.
-      (one_division K.ring K.laws K.tests K.inverse K.is_field d k.0 k.1
+      (one_division K d k.0 k.1
       (coeff (polynomials K.ring) N.coeffs i) (coeff (polynomials K.ring) q.coeffs i) (h i).0
       (coeff (polynomials K.ring) Q.coeffs i) (coeff (polynomials K.ring) R.coeffs i) (h i).1
       (record {

@@ -339,7 +339,7 @@ module _ (K : Field) (q : ℕ) (charP : HasCharacteristic (polynomials K.ring) (
             t.0 ≡ at_theta c R)) → Divides P.ring dp (sum_of_parts K.ring (suc q) (combined N j))
         divided R = (
           w,
-          coprime_divides K.ring K.laws K.tests K.inverse K.is_field dp unit_t
+          coprime_divides K dp unit_t
               (sum_of_parts K.ring (suc q) (combined N j)) (row_at R.0 j) cop.v cop.u
               (P.laws.add_comm (P.mul cop.v dp) (P.mul cop.u unit_t) ∙ cop.one)
               (ap (P.mul unit_t) (sym (polynomial_at (polynomials K.ring) P.laws P.tests n (λ j.

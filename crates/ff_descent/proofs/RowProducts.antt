@@ -113,7 +113,7 @@ module _ (K : Field) where
     unfolding poly
     relation_if_divides r k h w j = sym (combination_at r k s j)
         ∙ ap (λ (t : Poly K.ring). coeff K.ring t.coeffs j)
-        (one_division K.ring K.laws K.tests K.inverse K.is_field d δ hd (poly_combination K r k p)
+        (one_division K d δ hd (poly_combination K r k p)
         (poly_combination K r k q) (poly_combination K r k s) w.0 D.zero
         (combination_division r k h) (record {
           sum = w.1 ∙ ring2 D.ring D.laws (λ w d. w ⊗ d) (λ w d. w ⊗ d ⊕ nil) refl w.0 d;

@@ -54,12 +54,12 @@ module _ (F : Field) where
           → size F.ring p < 2
       go p q zero j hp hq h = omega arith
       go p q (suc i) zero hp hq h = let z : D.one ≡ D.zero = h
-          ∙ ap (λ t. D.mul t p) (no_size F.ring F.laws F.tests F.inverse F.is_field q hq)
+          ∙ ap (λ t. D.mul t p) (no_size F q hq)
           ∙ zero_mul D.ring D.laws p in
           let s : size F.ring D.one ≡ 0 = ap (size F.ring) z
           ∙ zero_size F in absurd (omega (arith, s, one_size F))
       go p q (suc i) (suc j) hp hq h = let s : size F.ring D.one ≡ suc (j + i) = ap (size F.ring) h
-          ∙ size-mul F.ring F.laws F.tests F.inverse F.is_field q p j i hq hp in omega
+          ∙ size-mul F q p j i hq hp in omega
           (arith, s, one_size F, hp)
 
 module _ (K : Elements ℕ) (L : Lawful K) (f : List (List ℕ)) where

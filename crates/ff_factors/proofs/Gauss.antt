@@ -40,10 +40,10 @@ module _ (K : Field) where
   pub zero_product : (a b : Poly K.ring) (n : ℕ) → size K.ring ((polynomials K.ring).mul a b)
       ≡ suc n → (size K.ring a ≡ 0) ⊎ (size K.ring b ≡ 0) → ⊥
   zero_product a b n h (inl z) = let k : size K.ring (R.mul a b)
-      ≡ 0 = ap (λ t. size K.ring (R.mul t b)) (no_size K.ring K.laws K.tests K.inverse K.is_field a
+      ≡ 0 = ap (λ t. size K.ring (R.mul t b)) (no_size K a
       z) ∙ ap (size K.ring) (zero_mul R RL b) ∙ zero_size K in absurd (omega (arith, h, k))
   zero_product a b n h (inr z) = let k : size K.ring (R.mul a b)
-      ≡ 0 = ap (λ t. size K.ring (R.mul a t)) (no_size K.ring K.laws K.tests K.inverse K.is_field b
+      ≡ 0 = ap (λ t. size K.ring (R.mul a t)) (no_size K b
       z) ∙ ap (size K.ring) (mul_zero R RL a) ∙ zero_size K in absurd (omega (arith, h, k))
 
   -- d divides c, or is coprime to it, or has a proper divisor
@@ -52,7 +52,7 @@ module _ (K : Field) where
   compare d c n has = go (size K.ring b.g) refl (size K.ring b.s) refl
     where
       b : Bezout K.ring d c
-      b = bezout K.ring K.laws K.tests K.inverse K.is_field (size K.ring c) d c (omega arith)
+      b = bezout K (size K.ring c) d c (omega arith)
 
       product : size K.ring (R.mul b.s b.g) ≡ suc n
       product = ap (size K.ring) (sym b.of_a) ∙ has
@@ -84,7 +84,7 @@ module _ (K : Field) where
       go (suc (suc k)) e (suc zero) h = let u : (h : P) × (R.mul h b.s ≡ R.one) = unit_poly K b.s h
           in inl (whole u.0 u.1)
       go (suc (suc k)) e (suc (suc j)) h = let z : size K.ring (R.mul b.s b.g)
-          ≡ suc (suc j + suc k) = size-mul K.ring K.laws K.tests K.inverse K.is_field b.s b.g
+          ≡ suc (suc j + suc k) = size-mul K b.s b.g
           (suc j) (suc k) h e in
           inr (inr (record {
             e = b.g;
@@ -149,7 +149,7 @@ module _ (K : Field) where
       go j hj zero hk = omega arith
       go zero hj (suc k) hk = absurd (zero_product h.0 d 0 product (inl hj))
       go (suc j) hj (suc k) hk = let z : size K.ring (R.mul h.0 d)
-          ≡ suc (j + k) = size-mul K.ring K.laws K.tests K.inverse K.is_field h.0 d j k hj hk in
+          ≡ suc (j + k) = size-mul K h.0 d j k hj hk in
           omega (arith, z, product, hk)
 
   -- a d of positive degree that divides all rows of g * h, and a first row of g and of h that are

@@ -52,7 +52,7 @@ module _ (K : Field) where
   combined g h positive none = go (size F.ring b.g) refl
     where
       b : Bezout F.ring (embed K g) (embed K h)
-      b = bezout F.ring F.laws F.tests F.inverse F.is_field (size F.ring (embed K h)) (embed K g)
+      b = bezout F (size F.ring (embed K h)) (embed K g)
           (embed K h) (omega arith)
 
       common : NormalForm K b.g → size F.ring b.g ≤ 1
@@ -68,7 +68,7 @@ module _ (K : Field) where
       go : (k : ℕ) → size F.ring b.g ≡ k → IsCoprime (polynomials F.ring) (embed K g) (embed K h)
       go zero e = let z : size F.ring (embed K g)
           ≡ 0 = ap (size F.ring) (b.of_a
-          ∙ ap (Q.mul b.s) (no_size F.ring F.laws F.tests F.inverse F.is_field b.g e)
+          ∙ ap (Q.mul b.s) (no_size F b.g e)
           ∙ mul_zero Q QL b.s) ∙ zero_size F in
           let same : size F.ring (embed K g) ≡ size (polynomials K.ring) g = embed_size K g in
           absurd (omega (arith, z, same, positive))

@@ -75,7 +75,7 @@ module _ (K : Field) where
           (x K.ring K.laws K.tests) (λ i. divides_trans D.ring D.laws (x K.ring K.laws K.tests) d.g
           (coeff D.ring g.coeffs i) (
             D.zero,
-            no_size K.ring K.laws K.tests K.inverse K.is_field d.g e
+            no_size K d.g e
                 ∙ sym (zero_mul D.ring D.laws (x K.ring K.laws K.tests)),
           ) (rows i)) in absurd
           (let two : size K.ring (x K.ring K.laws K.tests)

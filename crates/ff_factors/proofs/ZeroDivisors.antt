@@ -75,7 +75,7 @@ module _ (K : Field) where
     value_cases N = go (size F.ring b.g) refl (size F.ring b.t) refl
       where
         b : Bezout F.ring (embed K N) (embed K f)
-        b = bezout F.ring F.laws F.tests F.inverse F.is_field (size F.ring (embed K f)) (embed K N)
+        b = bezout F (size F.ring (embed K f)) (embed K N)
             (embed K f) (omega arith)
 
         product : size F.ring (Q.mul b.t b.g) ≡ suc n
@@ -143,7 +143,7 @@ module _ (K : Field) where
         d = class_differ F (embed K f) n (embed_size K f ∙ has) (Q.mul z.rep (embed K N)) Q.one
             ((residue_map F (embed K f) n (embed_size K f ∙ has)).on_mul z.rep (embed K N)
             ∙ ap (λ t. A.mul t (class_of F (embed K f) n (embed_size K f ∙ has) (embed K N)))
-            (class_back F.ring F.laws F.tests F.inverse F.is_field (embed K f) n (embed_size K f
+            (class_back F (embed K f) n (embed_size K f
             ∙ has) z) ∙ e ∙ sym (residue_map F (embed K f) n (embed_size K f ∙ has)).on_one)
 
         one : (u : Poly F.ring) × (Q.one ≡ Q.mul u (embed K w))

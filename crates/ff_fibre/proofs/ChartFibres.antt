@@ -14,7 +14,8 @@ use Rattle.ff_theory.proofs.Poly.{polynomial_laws}
 use Rattle.ff_theory.proofs.PolyMap.{polynomial_domain, zero_size, nonzero_size}
 use Rattle.ff_charts.specs.Chart.{Chart, at_u, at_theta, IsChart}
 use Rattle.ff_charts.specs.Lattice.{HasShape, IsResidue, flat}
-use Rattle.ff_charts.proofs.Chart.{at_u_map, at_theta_map, row_times, cancel_u, powers_mul, powers_u}
+use Rattle.ff_charts.proofs.Chart.{at_u_map, at_theta_map, row_times, cancel_u, powers_mul}
+use Rattle.ff_charts.proofs.Chart.{powers_u}
 use Rattle.ff_charts.proofs.Rows.{polynomial_past}
 use Rattle.ff_local.specs.Point.{OrderIn, IsSpanned, combined}
 use Rattle.ff_local.specs.ChartOrder.{ChartOrder, InChartOrder, root_at, plane_sum}
@@ -249,7 +250,8 @@ module _ (K : Field) (A : RingOps) (AL : IsCommRing A) (c : Chart K.ring A) (l :
           parts = ap over (ring2 (planes K) PL (λ n s. n) (λ n s. s ⊕ (n ⊕ neg s)) refl R
               (plane_sum K.ring r e G))
               ∙ ap (λ t. l.inverse o.modulus * t) (V.on_add _ _)
-              ∙ ring3 A AL (λ i s t. i ⊗ (s ⊕ t)) (λ i s t. i ⊗ s ⊕ i ⊗ t) refl (l.inverse o.modulus)
+              ∙ ring3 A AL (λ i s t. i ⊗ (s ⊕ t)) (λ i s t. i ⊗ s ⊕ i ⊗ t) refl
+              (l.inverse o.modulus)
               (at_theta c (plane_sum K.ring r e G)) (at_theta c ((planes K).add R
               ((planes K).neg (plane_sum K.ring r e G))))
               ∙ ap₂ A.add (sum_at_theta K A AL c l (l.inverse o.modulus) r e G) over_part

@@ -138,7 +138,8 @@ module _ (F : Elements ℕ) (L : Lawful F) (f : List (List ℕ)) (hf : IsPlane F
     λ i. times_cast F.ring (chart_of L f Finite).degree c.degree (pred (length o.d))
         (pred (size F.ring (poly_of F o.d))) degrees (order_rows F L f hf two o h)
         (root_at F.ring a) (InResidues F (pred (length o.d)) o.space) N
-        ((b.space N old_shape).0 (subst (λ m. InSpace F s.space (flat F.ring m N)) (sym long_is) i)),
+        ((b.space N old_shape).0
+        (subst (λ m. InSpace F s.space (flat F.ring m N)) (sym long_is) i)),
     λ i. subst (λ m. InSpace F s.space (flat F.ring m N)) long_is ((b.space N old_shape).1
         (times_cast F.ring c.degree (chart_of L f Finite).degree
         (pred (size F.ring (poly_of F o.d))) (pred (length o.d)) (sym degrees)
@@ -280,7 +281,8 @@ module _ (F : Elements ℕ) (L : Lawful F) (f : List (List ℕ)) (hf : IsPlane F
           pick (inr r) = subst (λ N. InChartOrder c O (over N)) (sym (flat_one (lawful_field L) ld
               c.degree (plane_at i) (O.space.basis k) (shape i q)
               (shape_less (lawful_field L) (algebra_in L f) (algebra_laws F L f hf two) c l c.degree
-              (pred (size F.ring (poly_of F o.d))) ld more (O.space.basis k) (O.space.shape k below))
+              (pred (size F.ring (poly_of F o.d))) ld more (O.space.basis k)
+              (O.space.shape k below))
               (λ j. row j ∙ ap (λ x. vectors_of F vs x j) split ∙ basis_vector k below j)))
               (in_over (lawful_field L) (algebra_in L f) (algebra_laws F L f hf two) c l O
               (O.space.basis k) (O.space.shape k below) (O.space.is_in k below))
@@ -480,7 +482,8 @@ module _ (F : Elements ℕ) (L : Lawful F) (f : List (List ℕ)) (hf : IsPlane F
         e = all i (let n = count in omega (arith, q, n)) j (let n = count in omega (arith, p, n))
 
     -- the fibre
-    abbrev pub data_fibre : ChartFibre (chart_of L f o.chart) (local_order F L f hf two o h closed) a
+    abbrev pub data_fibre : ChartFibre (chart_of L f o.chart)
+        (local_order F L f hf two o h closed) a
     data_fibre = chart_fibre (lawful_field L) (algebra_in L f) (algebra_laws F L f hf two)
         (chart_of L f o.chart) (chart_laws F L f hf two o.chart)
         (local_order F L f hf two o h closed) a modulus (length s.space.basis)

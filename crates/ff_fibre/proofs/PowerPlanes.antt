@@ -136,8 +136,8 @@ module _ (F : Elements ℕ) (L : Lawful F) where
       size_d = poly-size F.ring L.laws L.tests F.value d k.canonical
 
       go : (n : ℕ) × (size F.ring (poly_of F d) ≡ suc n) → length r ≡ length d + 1
-      go n = let p = ap (size F.ring) e ∙ size-mul F.ring L.laws L.tests (lawful_field L).inverse
-          (lawful_field L).is_field (root_at F.ring a) (poly_of F d) 1 n.0
+      go n = let p = ap (size F.ring) e
+          ∙ size-mul (lawful_field L) (root_at F.ring a) (poly_of F d) 1 n.0
           (root_size (lawful_field L) a) n.1 in
           let q = n.1 in
           omega (arith, p, q, size_r, size_d)

@@ -2,7 +2,8 @@
 use Rattle.std.proofs.Common.{◌≡◌, ℕ, ◌+◌, ◌<◌, ◌≤◌, ◌⊎◌, inl, inr, List, [], ◌∷◌, ◌++◌, get_or}
 use Rattle.std.proofs.Common.{length, sym, ◌∙◌, ap, subst, arith}
 use Rattle.std.proofs.lemmas.Bool.{cases_lt}
-use Rattle.std.proofs.lemmas.List.{get_or-map, map_push, length-map, get_or_append_left, get_or_push}
+use Rattle.std.proofs.lemmas.List.{get_or-map, map_push, length-map, get_or_append_left}
+use Rattle.std.proofs.lemmas.List.{get_or_push}
 use Rattle.std.specs.Global.{Vec}
 use Rattle.ff_theory.specs.Ring.{Elements}
 use Rattle.ff_theory.specs.Vector.{IsVector, vector_of, vectors_of}
@@ -37,7 +38,8 @@ module _ (F : Elements ℕ) (old : List (Vec ℕ)) (row : Vec ℕ) where
   pub kept_row : (i : ℕ) → i < length old → (j : ℕ) → vectors_of F (rows_of (old ++ row ∷ [])) i j
       ≡ vectors_of F (rows_of old) i j
   kept_row i l j = ap (λ r. vector_of F r j) (ap (λ t. get_or t i []) pushed
-      ∙ get_or_append_left (rows_of old) (row.items ∷ []) [] i (let e = count in omega (arith, l, e)))
+      ∙ get_or_append_left (rows_of old) (row.items ∷ []) [] i
+      (let e = count in omega (arith, l, e)))
 
   last_row : (i : ℕ) → length old ≡ i → get_or (rows_of (old ++ row ∷ [])) i [] ≡ row.items
   last_row i e = ap (λ t. get_or t i []) pushed

@@ -92,7 +92,7 @@ module _ (F : Elements ℕ) (L : Lawful F) where
       let kb : size F.ring (poly_of F b) ≡ suc 1 = sb ∙ two in
       let s : size F.ring (poly_of F c) ≡ suc (plus_ℕ (pred (length a)) 1)
       = ap (size F.ring) e
-      ∙ size-mul F.ring L.laws L.tests K.inverse K.is_field (poly_of F a) (poly_of F b)
+      ∙ size-mul K (poly_of F a) (poly_of F b)
       (pred (length a)) 1 ka kb in
       omega (arith, s, sc, positive)
 

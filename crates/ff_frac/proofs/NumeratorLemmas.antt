@@ -1,5 +1,5 @@
 -- The numerators of pole modules, as data, and the lattices that they span.
-use Rattle.std.proofs.Common.{◌≡◌, ℕ, zero, suc, pred, ◌+◌, ◌<◌, ◌↔◌, List, [], ◌∷◌, ◌++◌, length}
+use Rattle.std.proofs.Common.{◌≡◌, ℕ, suc, pred, ◌+◌, ◌<◌, ◌↔◌, List, [], ◌∷◌, ◌++◌, length}
 use Rattle.std.proofs.Common.{get_or, refl, sym, ◌∙◌, ap, ap₂, subst, arith}
 use Rattle.std.proofs.lemmas.List.{length-map, map_push, length_push, get_or_push}
 use Rattle.std.specs.Global.{Vec}
@@ -19,14 +19,14 @@ use Rattle.ff_elem.specs.Elem.{algebra_in}
 use Rattle.ff_data.specs.declared.order.Chart.{Chart}
 use Rattle.ff_data.specs.declared.order.Order.{Order}
 use Rattle.ff_data.specs.declared.point.Point.{Point}
-use Rattle.ff_data.specs.Orders.{chart_of, y_degree}
+use Rattle.ff_data.specs.Orders.{chart_of}
 use Rattle.ff_data.specs.Lattices.{InLatticeOf}
 use Rattle.ff_common.specs.Common.{IsTimesVector}
 use Rattle.ff_fibre.proofs.RowLists.{kept_row}
 use Rattle.ff_frac.specs.declared.powers.Powers.{Powers}
 use Rattle.ff_frac.specs.declared.numerators.Numerators.{Numerators}
-use Rattle.ff_frac.specs.Places.{IsMaximalPlace, IsPoleNumerator, IsModuleLattice, IsOrderLattice}
-use Rattle.ff_frac.specs.Powers.{HasPowersForm, IsPowerAt}
+use Rattle.ff_frac.specs.Places.{IsMaximalPlace, IsModuleLattice}
+use Rattle.ff_frac.specs.Powers.{IsPowerAt}
 use Rattle.ff_frac.specs.Numerators.{HasNumeratorsForm, IsWithPlane, IsModuleSpan}
 use Rattle.ff_frac.specs.Numerators.{AreNumeratorsAt}
 use Rattle.ff_frac.proofs.NumeratorLattice.{next_span}
@@ -58,7 +58,8 @@ pushed_plane F L f g l h N old list power same times last = record {
 }
 
 -- the same lattice by a space with the same vectors
-pub same_lattice : (F : Elements ℕ) (L : Lawful F) (f : List (List ℕ)) (chart : Chart) (d e : List ℕ)
+pub same_lattice : (F : Elements ℕ) (L : Lawful F) (f : List (List ℕ)) (chart : Chart)
+    (d e : List ℕ)
     (rows : List (List ℕ)) (s : SpaceParts) → e ≡ d → SameSpace F s.basis rows
     → (w : (algebra_in L f).carrier) → InLatticeOf L f chart e s w
     ↔ InLattice (chart_of L f chart) (poly_of F d) (λ N. InSpan F.ring (length rows)
@@ -148,7 +149,8 @@ module _ (F : Elements ℕ) (L : Lawful F) (f : List (List ℕ)) (hf : IsPlane F
 
   -- the lattice of the span
   pub module_lattice : (j : ℕ) (s : Numerators) → AreNumeratorsAt L f o p j s → (d : List ℕ)
-      (space : SpaceParts) → d ≡ s.powers.modulus → SameSpace F space.basis (rows_of s.vectors.items)
+      (space : SpaceParts) → d ≡ s.powers.modulus
+      → SameSpace F space.basis (rows_of s.vectors.items)
       → IsModuleLattice L f o p j d space
   module_lattice j s k d space is same w = (
     λ q. (k.exact w).0 (go.0 q),

@@ -1,6 +1,6 @@
 -- A point of a maximal order as one of an order of a chart: the pole modules, the numerators of
 -- elements with a pole, and the next power.
-use Rattle.std.proofs.Common.{◌≡◌, ℕ, zero, suc, pred, ◌+◌ as plus_ℕ, ◌<◌, ◌≤◌, ◌⊎◌, inl, inr}
+use Rattle.std.proofs.Common.{◌≡◌, ℕ, zero, suc, ◌<◌, ◌≤◌}
 use Rattle.std.proofs.Common.{false, List, length, refl, sym, ◌∙◌, ap, ap₂, subst, arith}
 use Rattle.ff_theory.specs.Ring.{RingOps, IsCommRing, Elements, power}
 use Rattle.ff_theory.specs.Lawful.{Domain, Lawful, lawful_field}
@@ -9,7 +9,7 @@ use Rattle.ff_theory.specs.Poly.{coeff, Poly, polynomials}
 use Rattle.ff_theory.specs.Division.{size}
 use Rattle.ff_theory.specs.Planes.{planes, Plane, row_of}
 use Rattle.ff_theory.specs.Values.{poly_of, plane_of, IsPlane}
-use Rattle.ff_theory.proofs.Solver.{◌⊕◌, ◌⊗◌, neg, nil, unit, ring1, ring2, ring3, ring4}
+use Rattle.ff_theory.proofs.Solver.{◌⊕◌, ◌⊗◌, neg, nil, ring1, ring2, ring3, ring4}
 use Rattle.ff_theory.proofs.Poly.{polynomial_laws}
 use Rattle.ff_theory.proofs.PolyMap.{polynomial_domain, zero_size, nonzero_size}
 use Rattle.ff_charts.specs.Chart.{Chart as ChartOf, at_u, at_theta, InPowers, IsChart}
@@ -29,7 +29,7 @@ use Rattle.ff_lattice.specs.Residues.{AreResidues}
 use Rattle.ff_elem.specs.Elem.{algebra_in}
 use Rattle.ff_data.specs.declared.order.Order.{Order}
 use Rattle.ff_data.specs.declared.point.Point.{Point}
-use Rattle.ff_data.specs.Orders.{chart_of, InOrder}
+use Rattle.ff_data.specs.Orders.{chart_of}
 use Rattle.ff_data.specs.Numerators.{AreQuotients}
 use Rattle.ff_data.specs.Poles.{InModule}
 use Rattle.ff_data.proofs.ChartLaws.{algebra_laws, chart_laws}
@@ -37,7 +37,7 @@ use Rattle.ff_data.proofs.LocalMaximal.{all_integral, maximal_order, maximal_poi
 use Rattle.ff_data.proofs.PlaneQuotients.{quotient_is}
 use Rattle.ff_frac.specs.Places.{IsMaximalPlace, HasPoleOrder, IsOverModulus, IsPoleNumerator}
 use Rattle.ff_frac.specs.Places.{first_modulus}
-use Rattle.ff_frac.proofs.PoleOrders.{IsAbove, near_above, product_above, next_module}
+use Rattle.ff_frac.proofs.PoleOrders.{IsAbove, near_above, product_above}
 
 module _ (F : Elements ℕ) (L : Lawful F) (f : List (List ℕ)) (hf : IsPlane F f)
     (two : 1 < length f) (o : Order) (p : Point) (h : IsMaximalPlace L f o p) where
@@ -171,7 +171,8 @@ module _ (F : Elements ℕ) (L : Lawful F) (f : List (List ℕ)) (hf : IsPlane F
   -- its quotient Q by d, and the residue R of that modulo m*(u-a)
   module _ (i : ℕ) (m : Poly F.ring) (is : m ≡ (polynomials F.ring).mul
       (power (polynomials F.ring) (root_at F.ring (F.value p.a)) (suc i)) (poly_of F o.d))
-      (W G R : List (List ℕ)) (N Q : Plane (lawful_field L)) (modulus : (chart_of L f o.chart).IsModulus m)
+      (W G R : List (List ℕ)) (N Q : Plane (lawful_field L))
+      (modulus : (chart_of L f o.chart).IsModulus m)
       (of_first : IsPoleNumerator L f o p 1 (first_modulus L f o p) G)
       (of_power : IsPoleNumerator L f o p (suc i) m W)
       (congruent : IsCongruent (polynomials F.ring) (chart_of L f o.chart).equation

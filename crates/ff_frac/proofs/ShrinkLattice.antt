@@ -8,7 +8,7 @@ use Rattle.std.specs.Global.{Vec}
 use Rattle.ff_theory.specs.Ring.{RingOps, IsCommRing, Elements}
 use Rattle.ff_theory.specs.Lawful.{Domain, Lawful, lawful_field}
 use Rattle.ff_theory.specs.Divides.{Divides}
-use Rattle.ff_theory.specs.Poly.{Poly, polynomials}
+use Rattle.ff_theory.specs.Poly.{polynomials}
 use Rattle.ff_theory.specs.Division.{size}
 use Rattle.ff_theory.specs.Planes.{planes as planes_ring, Plane, row_of}
 use Rattle.ff_theory.specs.Span.{SameSpan}
@@ -70,7 +70,7 @@ module _ (F : Elements ℕ) (L : Lawful F) (f : List (List ℕ)) (hf : IsPlane F
       let n = nonzero_size (lawful_field L) (poly_of F m)
       (l.modulus_nonzero (poly_of F m) modulus) in
       let u : size F.ring ((polynomials F.ring).mul (poly_of F by) (poly_of F m)) ≡ suc (b.0 + n.0)
-      = size-mul F.ring L.laws L.tests (lawful_field L).inverse (lawful_field L).is_field
+      = size-mul (lawful_field L)
       (poly_of F by) (poly_of F m) b.0 n.0 b.1 n.1 in
       let v = ap (size F.ring) product in let w = by_size in
       let x = b.1 in let y = n.1 in omega (arith, s, t, u, v, w, x, y)

@@ -1,6 +1,7 @@
 -- Rows that a polynomial divides, their quotients, and divisors of powers of the variable.
-use Rattle.std.proofs.Common.{◌≡◌, ℕ, zero, suc, pred, ◌+◌, ◌-◌, ◌<◌, ◌≤◌, ◌⊎◌, inl, inr, Bool, true, false}
-use Rattle.std.proofs.Common.{List, [], ◌∷◌, length, get_or, refl, sym, ◌∙◌, ap, ap₂, subst, arith}
+use Rattle.std.proofs.Common.{◌≡◌, ℕ, zero, suc, pred, ◌+◌, ◌-◌, ◌<◌, ◌≤◌, ◌⊎◌, inl, inr, Bool}
+use Rattle.std.proofs.Common.{true, false}
+use Rattle.std.proofs.Common.{List, [], length, refl, sym, ◌∙◌, ap, subst, arith}
 use Rattle.std.proofs.lemmas.Bool.{cases_lt}
 use Rattle.ff_theory.specs.Ring.{RingOps, Elements, power}
 use Rattle.ff_theory.specs.Lawful.{Domain, Field, Lawful, lawful_field}
@@ -10,7 +11,6 @@ use Rattle.ff_theory.specs.Division.{size, IsDivision}
 use Rattle.ff_theory.specs.Monomial.{variable}
 use Rattle.ff_theory.specs.Planes.{planes, Plane, row_of}
 use Rattle.ff_theory.specs.Values.{poly_of, polys_of, plane_of, IsPoly}
-use Rattle.ff_theory.specs.Vector.{vector_of}
 use Rattle.ff_theory.proofs.Solver.{◌⊕◌, ◌⊗◌, nil, ring2, ring3, ring6, zero_mul, mul_zero}
 use Rattle.ff_theory.proofs.Poly.{Poly_ext}
 use Rattle.ff_theory.proofs.Powers.{power-add}
@@ -20,7 +20,7 @@ use Rattle.ff_theory.proofs.Divides.{divides_zero}
 use Rattle.ff_theory.proofs.Division.{const_mul_at, add_at, size-mul, one_division}
 use Rattle.ff_theory.proofs.PolyMap.{polynomial_domain, zero_size, nonzero_size, one_size, not_same}
 use Rattle.ff_theory.proofs.PolyMap.{same_false}
-use Rattle.ff_charts.specs.Lattice.{HasShape, flat}
+use Rattle.ff_charts.specs.Lattice.{flat}
 use Rattle.ff_charts.proofs.VariablePowers.{zeros, after_zeros, splits_list, starts_nonzero}
 use Rattle.ff_charts.proofs.VariablePowers.{coprime_power}
 use Rattle.ff_quotients.proofs.QuotientResidues.{variable_power_size}
@@ -55,13 +55,14 @@ module _ (K : Field) where
 
     pub exact_division : (a q r : Poly K.ring) → IsDivision K.ring a b q r
         → Divides (polynomials K.ring) b a → a ≡ (polynomials K.ring).mul b q
-    exact_division a q r d h = h.1 ∙ ap (λ t. D.mul t b) (sym (one_division K.ring K.laws K.tests
-        K.inverse K.is_field b k.0 k.1 a q r h.0 R.zero d (exact a h)).0) ∙ D.laws.mul_comm q b
+    exact_division a q r d h = h.1
+        ∙ ap (λ t. D.mul t b) (sym (one_division K b k.0 k.1 a q r h.0 R.zero d (exact a h)).0)
+        ∙ D.laws.mul_comm q b
 
     -- a remainder of what is smaller
     pub small_remainder : (a q r : Poly K.ring) → IsDivision K.ring a b q r
         → size K.ring a < size K.ring b → r ≡ a
-    small_remainder a q r d s = (one_division K.ring K.laws K.tests K.inverse K.is_field b k.0 k.1 a
+    small_remainder a q r d s = (one_division K b k.0 k.1 a
         q r R.zero a d (record {
           sum = ring2 R D.laws (λ a b. a) (λ a b. nil ⊗ b ⊕ a) refl a b;
           smaller = s;
@@ -109,13 +110,12 @@ module _ (K : Field) where
           ∙ ap (R.mul y) (D.tests.same_true s R.zero q) ∙ mul_zero R D.laws y))
       small false false p q = let m = nonzero_size K y p in let n = nonzero_size K s q in
           let o : size K.ring R.one ≡ 1 = one_size K in
-          let t : size K.ring (R.mul y s) ≡ suc (m.0 + n.0) = size-mul K.ring K.laws K.tests
-          K.inverse K.is_field y s m.0 n.0 m.1 n.1 in
+          let t : size K.ring (R.mul y s) ≡ suc (m.0 + n.0) = size-mul K y s m.0 n.0 m.1 n.1 in
           let e = ap (size K.ring) inverse in omega (arith, o, t, e, n.1)
 
       index : zeros K a.coeffs ≡ i
-      index = let t : size K.ring (R.mul xi s) ≡ suc (zeros K a.coeffs + 0) = size-mul K.ring K.laws
-          K.tests K.inverse K.is_field xi s (zeros K a.coeffs) 0
+      index = let t : size K.ring (R.mul xi s) ≡ suc (zeros K a.coeffs + 0) = size-mul K xi s
+          (zeros K a.coeffs) 0
           (variable_power_size K (zeros K a.coeffs)) (small _ _ refl refl) in
           let e = ap (size K.ring) whole in omega (arith, t, e, has)
 
@@ -129,8 +129,8 @@ module _ (K : Field) where
   power_quotient i j m q e has = ap (power R X) sum ∙ power-add R D.laws X i m
     where
       sum : j ≡ i + m
-      sum = let s : size K.ring (R.mul (power R X i) q) ≡ suc (i + m) = size-mul K.ring K.laws
-          K.tests K.inverse K.is_field (power R X i) q i m (variable_power_size K i) has in
+      sum = let s : size K.ring (R.mul (power R X i) q) ≡ suc (i + m) = size-mul K
+          (power R X i) q i m (variable_power_size K i) has in
           let t = ap (size K.ring) e in let u = variable_power_size K j in omega (arith, s, t, u)
 
 module _ (F : Elements ℕ) (L : Lawful F) where
@@ -201,7 +201,7 @@ module _ (F : Elements ℕ) (L : Lawful F) where
           go zero e = omega (arith, e, pm, m_size)
           go (suc a) e = let t : size F.ring (E.mul (poly_of F by)
               (coeff (polynomials F.ring) (plane_of F Q).coeffs i)) ≡ suc (pred (length by) + a)
-              = size-mul F.ring L.laws L.tests (lawful_field L).inverse (lawful_field L).is_field (poly_of F by)
+              = size-mul (lawful_field L) (poly_of F by)
               (coeff (polynomials F.ring) (plane_of F Q).coeffs i) (pred (length by)) a
               (omega (arith, b_size, pb)) e in let u = ap (size F.ring) (exact_row i) in
               let v : size F.ring (coeff (polynomials F.ring) (plane_of F rows).coeffs i)

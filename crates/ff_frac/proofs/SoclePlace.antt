@@ -1,7 +1,7 @@
 -- At a point of a maximal order the equations by a fibre have a solution that is not 0, and each
 -- gives an element with a pole of order one.
-use Rattle.std.proofs.Common.{◌≡◌, ℕ, zero, suc, pred, ◌+◌, ◌*◌, ◌<◌, ◌≤◌, ◌⊎◌, inl, inr, ◌==◌}
-use Rattle.std.proofs.Common.{false, List, [], length, get_or, refl, sym, ◌∙◌, ap, ap₂, subst, arith}
+use Rattle.std.proofs.Common.{◌≡◌, ℕ, zero, suc, pred, ◌<◌, ◌≤◌, ◌⊎◌, inl, inr}
+use Rattle.std.proofs.Common.{false, List, length, refl, sym, ◌∙◌, ap, subst, arith}
 use Rattle.std.proofs.lemmas.Bool.{cases_lt}
 use Rattle.ff_theory.specs.Ring.{RingOps, IsCommRing, Elements}
 use Rattle.ff_theory.specs.Lawful.{Field, Lawful, lawful_field}
@@ -9,10 +9,10 @@ use Rattle.ff_theory.specs.Map.{IsMap}
 use Rattle.ff_theory.specs.Poly.{Poly, polynomials}
 use Rattle.ff_theory.specs.Division.{size}
 use Rattle.ff_theory.specs.Planes.{planes, Plane}
-use Rattle.ff_theory.specs.Span.{combination, product, InSpan, EndsAt, unit_at}
+use Rattle.ff_theory.specs.Span.{combination, product, InSpan, unit_at}
 use Rattle.ff_theory.specs.Values.{poly_of, plane_of, IsPlane}
 use Rattle.ff_theory.specs.Vector.{vector_of, vectors_of, IsVector}
-use Rattle.ff_theory.proofs.Solver.{◌⊕◌, ◌⊗◌, neg, nil, unit, ring1, ring2, ring3, ring4}
+use Rattle.ff_theory.proofs.Solver.{◌⊗◌, neg, unit, ring1, ring3}
 use Rattle.ff_theory.proofs.Sums.{sum-ext}
 use Rattle.ff_theory.proofs.Span.{span-one}
 use Rattle.ff_theory.proofs.Dependence.{Found}
@@ -20,27 +20,26 @@ use Rattle.ff_charts.specs.Chart.{Chart as ChartOf, at_u, at_theta, IsChart}
 use Rattle.ff_charts.specs.Lattice.{HasShape, flat}
 use Rattle.ff_charts.proofs.Chart.{at_u_map, cancel_u}
 use Rattle.ff_charts.proofs.Flat.{flat_one}
-use Rattle.ff_local.specs.Point.{OrderAt, InKernel}
+use Rattle.ff_local.specs.Point.{OrderAt}
 use Rattle.ff_local.specs.Fibre.{IsSocleVector}
 use Rattle.ff_local.specs.Socle.{IsSocle}
 use Rattle.ff_local.specs.ChartOrder.{ChartOrder, ChartPoint, root_at, plane_sum}
 use Rattle.ff_local.specs.ChartFibre.{ChartFibre}
 use Rattle.ff_local.specs.ChartPole.{pole_modulus}
 use Rattle.ff_local.proofs.ChartFibre.{fibre, element_in, chart_socle, chart_socle_vector}
-use Rattle.ff_local.proofs.ChartPoint.{value_of, value_is}
+use Rattle.ff_local.proofs.ChartPoint.{value_is}
 use Rattle.ff_local.proofs.ChartSpanning.{over_modulus}
 use Rattle.ff_local.proofs.PlaneSums.{sum_vector, sum_has_shape}
 use Rattle.ff_local.proofs.Quotients.{times_over}
-use Rattle.ff_lin.specs.Space.{SpaceParts, IsSpaceOf, rows_of, pivot}
+use Rattle.ff_lin.specs.Space.{SpaceParts, IsSpaceOf, pivot}
 use Rattle.ff_lin.proofs.Entries.{entry}
 use Rattle.ff_elem.specs.Elem.{algebra_in}
 use Rattle.ff_characters.specs.Characters.{tables_of}
 use Rattle.ff_data.specs.declared.order.Order.{Order}
 use Rattle.ff_data.specs.declared.point.Point.{Point}
-use Rattle.ff_data.specs.Orders.{chart_of, y_degree, InOrder}
+use Rattle.ff_data.specs.Orders.{chart_of, y_degree}
 use Rattle.ff_data.proofs.ChartLaws.{algebra_laws, chart_laws, chart_degree}
 use Rattle.ff_data.proofs.LocalMaximal.{maximal_closed}
-use Rattle.ff_data.proofs.LocalOrder.{basis_ends}
 use Rattle.ff_fibre.specs.declared.parts.Fibre.{Fibre}
 use Rattle.ff_fibre.specs.Fibres.{IsFibreAt}
 use Rattle.ff_fibre.proofs.FibreOfData.{data_fibre, count, wide_is, vector}

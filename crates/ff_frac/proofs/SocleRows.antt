@@ -1,5 +1,5 @@
 -- Lists of the rows of the equations of an element with a pole of order one, and their solutions.
-use Rattle.std.proofs.Common.{◌≡◌, ℕ, zero, suc, ◌+◌, ◌<◌, ◌≤◌, ◌⊎◌, inl, inr, Bool, true, false}
+use Rattle.std.proofs.Common.{◌≡◌, ℕ, ◌+◌, ◌<◌, ◌≤◌, ◌⊎◌, inl, inr, Bool, true, false}
 use Rattle.std.proofs.Common.{List, [], ◌∷◌, ◌++◌, length, get_or, ◌==◌, refl, sym, ◌∙◌, ap, subst}
 use Rattle.std.proofs.Common.{arith, Result, Ok, Err, IfOk}
 use Rattle.std.proofs.lemmas.Bool.{cases_lt, eqb-true, eqb-false}
@@ -152,7 +152,11 @@ module _ (F : Elements ℕ) (n : ℕ) (table : List (List (List ℕ))) (chi : �
       → IfOk r (λ s. HasExactly F s (IsOrthogonal F n rows))
       → IfOk r (λ s. IsSocleSpace F n table chi s)
   exact_space L rows h (Ok s) hs k = λ c. (
-    λ i. (subst (λ m. EndsAt F.ring m c) hs.len ((k c).0 i).0, solution_into L rows h c ((k c).0 i).1),
+    λ i. (
+      subst (λ m. EndsAt F.ring m c) hs.len ((k c).0 i).0,
+      solution_into L rows h c
+          ((k c).0 i).1,
+    ),
     λ t. (k c).1 (subst (λ m. EndsAt F.ring m c) (sym hs.len) t.0, solution_back L rows h c t.1),
   )
   exact_space L rows h (Err e) hs k = tt

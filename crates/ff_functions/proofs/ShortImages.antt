@@ -51,7 +51,7 @@ quotient_size K b row Q R h n m hb division fits = go (size K.ring Q) refl
     go : (s : ℕ) → size K.ring Q ≡ s → size K.ring Q ≤ m
     go zero e = omega (arith, e)
     go (suc c) e = let s : size K.ring ((polynomials K.ring).mul Q b) ≡ suc (plus_ℕ c n)
-        = size-mul K.ring K.laws K.tests K.inverse K.is_field Q b c n e hb in
+        = size-mul K Q b c n e hb in
         omega (arith, s, product, e)
 
 module _ (F : Elements ℕ) (L : Lawful F) where
@@ -85,7 +85,7 @@ module _ (F : Elements ℕ) (L : Lawful F) where
       size_is : size F.ring (poly_of F by) ≡ suc (suc (pred (length d)))
       size_is = let s : size F.ring ((polynomials F.ring).mul (variable F.ring) (poly_of F d))
           ≡ suc (plus_ℕ 1 (pred (length d)))
-          = size-mul F.ring L.laws L.tests (lawful_field L).inverse (lawful_field L).is_field
+          = size-mul (lawful_field L)
           (variable F.ring) (poly_of F d) 1 (pred (length d)) (variable_size (lawful_field L))
           (d_size F L d hd nonzero) in
           omega (arith, s, ap (size F.ring) (hb ∙ by_is F L d hd nonzero))

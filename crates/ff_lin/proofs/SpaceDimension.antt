@@ -2,10 +2,11 @@
 use Rattle.std.proofs.Common.{◌≡◌, ℕ, ◌+◌, ◌<◌, ◌≤◌, ◌⊎◌, inl, inr, ◌↔◌, List, [], length, get_or}
 use Rattle.std.proofs.Common.{refl, sym, ◌∙◌, ap, arith, All}
 use Rattle.std.proofs.lemmas.Bool.{cases_lt}
-use Rattle.ff_theory.specs.Ring.{IsCommRing, IsTested, IsField, Elements}
+use Rattle.ff_theory.specs.Ring.{Elements}
 use Rattle.ff_theory.proofs.Sums.{sum-ext, sum-zero}
 use Rattle.ff_theory.proofs.Solver.{◌⊕◌, nil, ring1, mul_zero}
 use Rattle.ff_theory.specs.Vector.{vectors_of, IsVector, combination_of}
+use Rattle.ff_theory.specs.Lawful.{Lawful, lawful_field}
 use Rattle.ff_lin.specs.Space.{SpaceParts, IsSpace, InSpace, HasExactly, IsRelation, IsSum, pivot}
 use Rattle.ff_theory.proofs.Span.{span-one, span-zero}
 use Rattle.ff_lin.proofs.Echelon.{echelon-independent}
@@ -13,12 +14,13 @@ use Rattle.ff_lin.proofs.Steps.{past}
 use Rattle.ff_lin.proofs.Dimension.{at-most, smaller-dimension, rank-bound, meet-sum_above}
 use Rattle.ff_lin.proofs.Dimension.{meet-sum_below}
 
-module _ (K : Elements ℕ) (laws : IsCommRing K.ring) (tests : IsTested K.ring)
-    (field : IsField K.ring K.inverse) where
+module _ {K : Elements ℕ} (L : Lawful K) where
+  open L use {laws}
+
   -- a subspace has at most the dimension
   pub dimension-subspace : (s t : SpaceParts) → IsSpace K s
       → ((v : ℕ → K.carrier) → InSpace K s v → InSpace K t v) → length s.basis ≤ length t.basis
-  dimension-subspace s t space inside = at-most K.ring laws tests K.inverse field (length s.basis)
+  dimension-subspace s t space inside = at-most (lawful_field L) (length s.basis)
       (vectors_of K s.basis) (length t.basis) (vectors_of K t.basis)
       (echelon-independent K.ring laws (length s.basis) (vectors_of K s.basis) (pivot s)
       space.echelon) (λ i l. inside (vectors_of K s.basis i)
@@ -28,8 +30,8 @@ module _ (K : Elements ℕ) (laws : IsCommRing K.ring) (tests : IsTested K.ring)
   pub dimension-proper : (s t : SpaceParts) → IsSpace K s
       → ((v : ℕ → K.carrier) → InSpace K s v → InSpace K t v) → (v : ℕ → K.carrier) → InSpace K t v
       → ¬ (InSpace K s v) → length s.basis < length t.basis
-  dimension-proper s t space inside v h outside = smaller-dimension K.ring laws tests K.inverse
-      field (length s.basis) (vectors_of K s.basis) (length t.basis) (vectors_of K t.basis) v
+  dimension-proper s t space inside v h outside = smaller-dimension (lawful_field L)
+      (length s.basis) (vectors_of K s.basis) (length t.basis) (vectors_of K t.basis) v
       (echelon-independent K.ring laws (length s.basis) (vectors_of K s.basis) (pivot s)
       space.echelon) (λ i l. inside (vectors_of K s.basis i)
       (span-one K.ring laws (length s.basis) (vectors_of K s.basis) i l)) h outside
@@ -39,7 +41,7 @@ module _ (K : Elements ℕ) (laws : IsCommRing K.ring) (tests : IsTested K.ring)
       ≡ length images → All (IsVector K m) images → HasExactly K s (IsRelation K images)
       → length images ≤ m + length s.basis
   dimension-relations s images m space len vectors exact =
-      rank-bound K.ring laws tests K.inverse field (length images) m (vectors_of K images)
+      rank-bound (lawful_field L) (length images) m (vectors_of K images)
       (length s.basis) (vectors_of K s.basis) (pivot s) space.echelon
       (λ v ends h. (exact v).1 (
         (λ j l. ends j (omega (arith, l, len))),
@@ -135,7 +137,7 @@ module _ (K : Elements ℕ) (laws : IsCommRing K.ring) (tests : IsTested K.ring)
           (span-one K.ring laws (length b.basis) (vectors_of K b.basis) i l)
 
       above : length a.basis + length b.basis ≤ length s.basis + length t.basis
-      above = meet-sum_above K.ring laws tests K.inverse field (length a.basis)
+      above = meet-sum_above (lawful_field L) (length a.basis)
           (vectors_of K a.basis) (pivot a) ha.echelon (length b.basis) (vectors_of K b.basis)
           (pivot b) hb.echelon
           (length s.basis) (vectors_of K s.basis) (pivot s) hs.echelon (length t.basis)
@@ -143,7 +145,7 @@ module _ (K : Elements ℕ) (laws : IsCommRing K.ring) (tests : IsTested K.ring)
           (λ x h. ((meet x).0 h).0) (λ x h. ((meet x).0 h).1) (λ x h k. (meet x).1 (h, k)) u_in v_in
 
       below : length s.basis + length t.basis ≤ length a.basis + length b.basis
-      below = meet-sum_below K.ring laws tests K.inverse field (length a.basis)
+      below = meet-sum_below (lawful_field L) (length a.basis)
           (vectors_of K a.basis) (pivot a) ha.echelon (length b.basis) (vectors_of K b.basis)
           (pivot b) hb.echelon
           (length s.basis) (vectors_of K s.basis) (pivot s) hs.echelon (length t.basis)

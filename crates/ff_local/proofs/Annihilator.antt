@@ -10,6 +10,7 @@ use Rattle.ff_theory.proofs.Horner.{horner, horner-sum}
 use Rattle.ff_theory.proofs.PolyMap.{not_same}
 use Rattle.ff_theory.specs.Span.{Dependence}
 use Rattle.ff_theory.proofs.Dependence.{dependence}
+use Rattle.ff_theory.proofs.Domains.{field_domain}
 use Rattle.ff_local.specs.Point.{OrderAt, InKernel, IsMultiple, IsSpanned, Spanning}
 use Rattle.ff_local.specs.Point.{combined}
 use Rattle.ff_local.specs.Socle.{IsKilledBy}
@@ -95,15 +96,7 @@ module _ (P : OrderAt) where
       powers i = S.spans (power P.ring r i) (in_power P.order r i m.inside)
 
       relation : Dependence P.field.ring (suc S.count) S.count (λ i. (powers i).coefficients)
-      relation = dependence P.field.ring P.field.laws P.field.tests P.field.is_field.one_not_zero
-          no_divisors S.count (suc S.count) _ (omega arith)
-        where
-          no_divisors : (a b : P.field.carrier) → P.field.mul a b ≡ P.field.zero
-              → ¬ (b ≡ P.field.zero) → a ≡ P.field.zero
-          no_divisors a b e n = ring1 P.field.ring P.field.laws (λ a. a) (λ a. a ⊗ unit) refl a
-              ∙ ap (P.field.mul a) (sym (P.field.is_field.mul_inverse b n))
-              ∙ sym (P.field.laws.mul_assoc a b _)
-              ∙ ap (λ t. P.field.mul t (P.field.inverse b)) e ∙ zero_mul P.field.ring P.field.laws _
+      relation = dependence (field_domain P.field) S.count (suc S.count) _ (omega arith)
 
       pub annihilator : Annihilator P r
       annihilator = divided (suc S.count) d.coefficients d.index zero d.below d.nonzero

@@ -4,8 +4,9 @@ use Rattle.std.proofs.Common.{◌≡◌, ℕ, zero, suc, ◌+◌ as plus_ℕ, �
 use Rattle.std.proofs.Common.{refl, sym, ◌∙◌, ap, subst}
 use Rattle.std.proofs.Common.{◌-◌, ◌<◌, ◌≤◌, arith}
 use Rattle.std.proofs.lemmas.Bool.{cases_lt}
-use Rattle.ff_theory.proofs.Solver.{◌⊕◌, ◌⊗◌, neg, unit, ring1, ring2, ring3, mul_zero}
+use Rattle.ff_theory.proofs.Solver.{◌⊕◌, ◌⊗◌, neg, unit, ring1, ring2}
 use Rattle.ff_theory.proofs.PolyMap.{not_same}
+use Rattle.ff_theory.proofs.Domains.{field_domain, no_divisors}
 use Rattle.ff_local.specs.Point.{OrderAt, InKernel}
 use Rattle.ff_local.specs.Module.{InModule, IsLocalPair, lead}
 use Rattle.ff_local.specs.Weight.{IsSubring, InL, IsBelow, HasWeight, IsPoleNumber}
@@ -102,21 +103,14 @@ module _ (P : OrderAt) (Other : P.carrier → Type 0) (sub : IsSubring P Other) 
       in_other = m.in_other;
     }
 
-    no_divisors : (a b : P.field.carrier) → P.field.mul a b ≡ P.field.zero
-        → ¬ (a ≡ P.field.zero) → b ≡ P.field.zero
-    no_divisors a b e n = ring1 P.field.ring P.field.laws (λ b. b) (λ b. unit ⊗ b) refl b
-        ∙ ap (λ t. P.field.mul t b) (sym (P.field.is_field.mul_inverse a n))
-        ∙ ring3 P.field.ring P.field.laws (λ a i b. a ⊗ i ⊗ b) (λ a i b. i ⊗ (a ⊗ b)) refl a
-        (P.field.inverse a) b
-        ∙ ap (P.field.mul (P.field.inverse a)) e ∙ mul_zero P.field.ring P.field.laws _
-
     pub weights_add : (i j : ℕ) (w u : P.carrier) → HasWeight P Other i w → HasWeight P Other j u
         → HasWeight P Other (plus_ℕ i j) (P.mul w u)
     weights_add i j w u g k = record {
       inside = space_products i j w u g.inside k.inside;
       not_below = λ b. k.not_below (leads_below j u k.inside
-          (no_divisors (lead P h i w) (lead P h j u)
-          (sym (leading_mul P s h l i j w u g.inside.in_module k.inside.in_module)
+          (no_divisors (field_domain P.field) (lead P h j u) (lead P h i w)
+          (P.field.laws.mul_comm _ _
+          ∙ sym (leading_mul P s h l i j w u g.inside.in_module k.inside.in_module)
           ∙ below_leads (plus_ℕ i j) (w * u) b)
           (λ e. g.not_below (leads_below i w g.inside e))));
     }

@@ -1,8 +1,9 @@
 -- The odd primes of the table, and the exponents that they do not divide.
-use Rattle.std.proofs.Common.{◌≡◌, ℕ, zero, suc, ◌<◌, ◌≤◌, ◌%◌, ◌==◌, ◌+◌, Bool, true, false, not, cond, IsTrue}
-use Rattle.std.proofs.Common.{List, [], ◌∷◌, get_or, length, nat_eq, nat_lt, refl, sym, ◌∙◌, ap}
-use Rattle.std.proofs.Common.{subst, lit<, lit≤, arith}
-use Rattle.std.specs.List.{AllPass, filter}
+use Rattle.std.proofs.Common.{◌≡◌, ℕ, zero, suc, ◌<◌, ◌≤◌, ◌%◌, ◌==◌, ◌+◌, Bool, true, false, not}
+use Rattle.std.proofs.Common.{cond}
+use Rattle.std.proofs.Common.{List, [], ◌∷◌, get_or, nat_eq, nat_lt, refl, sym, ◌∙◌, ap}
+use Rattle.std.proofs.Common.{subst, lit≤, arith}
+use Rattle.std.specs.List.{filter}
 use Rattle.std.proofs.lemmas.List.Elements.{All-get_or}
 use Rattle.std.proofs.lemmas.List.Sums.{AllPass-from_list_all}
 use Rattle.std.proofs.lemmas.Bool.{eqb-true, ltb-true}
@@ -64,7 +65,8 @@ module _ (p : ℕ) (g : (i : ℕ) × ((i < 24) × (p ≡ get_or primes (i + 1) 0
   by_size : is_small_or_large p ≡ nat_lt 12 p
   by_size = ap (λ b. cond b true (cond (nat_eq p 5) true (cond (nat_eq p 7) true
       (cond (nat_eq p 11) true (nat_lt 12 p))))) (differs 3 three)
-      ∙ ap (λ b. cond b true (cond (nat_eq p 7) true (cond (nat_eq p 11) true (nat_lt 12 p)))) (differs 5 five)
+      ∙ ap (λ b. cond b true (cond (nat_eq p 7) true (cond (nat_eq p 11) true (nat_lt 12 p))))
+      (differs 5 five)
       ∙ ap (λ b. cond b true (cond (nat_eq p 11) true (nat_lt 12 p))) (differs 7 seven)
       ∙ ap (λ b. cond b true (nat_lt 12 p)) (differs 11 eleven)
 
@@ -81,7 +83,8 @@ few_left : (test : ℕ → Bool) (xs : List ℕ) → AllFew xs → AllFew (filte
 few_left test [] h = tt
 few_left test (x ∷ xs) h = go (test x) (few_left test xs h.1)
   where
-    go : (b : Bool) → AllFew (filter test xs) → AllFew (cond b (x ∷ filter test xs) (filter test xs))
+    go : (b : Bool) → AllFew (filter test xs)
+        → AllFew (cond b (x ∷ filter test xs) (filter test xs))
     go true rest = (h.0, rest)
     go false rest = rest
 

@@ -1,5 +1,5 @@
 -- A hyperelliptic curve in shifted coordinates is within the limits of an equation.
-use Rattle.std.proofs.Common.{◌≡◌, ℕ, zero, suc, ◌+◌, ◌-◌, ◌*◌, ◌<◌, ◌≤◌, ◌⊎◌, inl, inr, List, [], ◌∷◌}
+use Rattle.std.proofs.Common.{◌≡◌, ℕ, zero, suc, ◌-◌, ◌*◌, ◌<◌, ◌≤◌, ◌⊎◌, inl, inr, List, [], ◌∷◌}
 use Rattle.std.proofs.Common.{length, map, get_or, refl, sym, ◌∙◌, ap, ap₂, arith}
 use Rattle.std.proofs.lemmas.Bool.{cases_lt}
 use Rattle.std.proofs.lemmas.List.{length-map}
@@ -16,7 +16,7 @@ use Rattle.ff_theory.proofs.PolyMap.{polynomial_domain}
 use Rattle.ff_theory.proofs.Product.{poly-coeff}
 use Rattle.ff_theory.proofs.Booleans.{differ}
 use Rattle.ff_theory.proofs.Division.{zero_from, add_at, mul_at, size-add, size-neg, size-mul-le}
-use Rattle.ff_poly.specs.Limits.{IsEquation, IsWithinLimits, monic_size}
+use Rattle.ff_poly.specs.Limits.{IsEquation, IsWithinLimits}
 use Rattle.ff_poly.proofs.LongDivision.{poly-size, poly-size-le}
 use Rattle.ff_poly.proofs.RowLists.{row-value}
 use Rattle.ff_make.specs.Curve.{x_plus, y_plus, right_side, curve}

@@ -1,5 +1,6 @@
 -- Combinations of vectors modulo a space: bases that grow, and the relation that has coordinates.
-use Rattle.std.proofs.Common.{◌≡◌, ℕ, zero, suc, ◌+◌, ◌-◌, ◌<◌, ◌≤◌, ◌⊎◌, inl, inr, Bool, true, false}
+use Rattle.std.proofs.Common.{◌≡◌, ℕ, zero, suc, ◌+◌, ◌-◌, ◌<◌, ◌≤◌, ◌⊎◌, inl, inr, Bool, true}
+use Rattle.std.proofs.Common.{false}
 use Rattle.std.proofs.Common.{List, [], ◌∷◌, ◌++◌, length, get_or, refl, sym, ◌∙◌, ap, ap₂, subst}
 use Rattle.std.proofs.Common.{arith, All, below_more, Option, Some, None, IfSome, IfNone}
 use Rattle.std.proofs.lemmas.List.Elements.{All-push}
@@ -7,9 +8,10 @@ use Rattle.std.proofs.lemmas.Bool.{cases_lt}
 use Rattle.std.proofs.lemmas.List.{get_or_append_left, get_or_push, length_push, length-map}
 use Rattle.std.proofs.lemmas.List.{get_or-map}
 use Rattle.std.specs.Global.{Vec}
-use Rattle.ff_theory.specs.Ring.{Elements, IsCommRing, IsTested, IsField}
+use Rattle.ff_theory.specs.Ring.{Elements, IsCommRing}
 use Rattle.ff_theory.specs.Span.{combination, InSpan, EndsAt}
 use Rattle.ff_theory.specs.Vector.{vector_of, vectors_of, IsVector, combination_of}
+use Rattle.ff_theory.specs.Lawful.{Lawful}
 use Rattle.ff_theory.proofs.Solver.{◌⊕◌, ◌⊗◌, neg, nil, unit, ring1, ring2, ring3, ring4}
 use Rattle.ff_theory.proofs.Solver.{zero_mul}
 use Rattle.ff_theory.proofs.Sums.{sum-ext, sum-zero, sum-mul, sum-front}
@@ -67,8 +69,10 @@ with-same : {A : Type 0} (r : ℕ) (c : ℕ → A) (a : A) → with_at r c a r �
 with-same zero c a = refl
 with-same (suc r) c a = with-same r (λ j. c (suc j)) a
 
-module _ (F : Elements ℕ) (laws : IsCommRing F.ring) (tests : IsTested F.ring)
-    (field : IsField F.ring F.inverse) where
+module _ {F : Elements ℕ} (L : Lawful F) where
+  open L use {laws, tests}
+  open L.finite use {field}
+
   is-zero : (a : F.carrier) → (a ≡ F.zero) ⊎ ¬ (a ≡ F.zero)
   is-zero a = go (F.same a F.zero) refl
     where

@@ -107,7 +107,7 @@ module _ (K : Field) (f : Plane K) (n : ℕ) (has : size (polynomials K.ring) f 
 
         row : (i : ℕ) → i < n → coeff (polynomials K.ring) Q.coeffs i
             ≡ coeff (polynomials K.ring) M.0.coeffs i
-        row i l = (one_division K.ring K.laws K.tests K.inverse K.is_field (by i) k.0 k.1
+        row i l = (one_division K (by i) k.0 k.1
             (coeff (polynomials K.ring) N.coeffs i) (coeff (polynomials K.ring) Q.coeffs i)
             (h i l).0
             (coeff (polynomials K.ring) M.0.coeffs i) P.zero (h i l).1 (record {

@@ -55,8 +55,8 @@ module _ (F : Elements ℕ) (L : Lawful F) where
           (reduced F.ring (length s.basis) (vectors_of F s.basis) (pivot s) v j) F.zero ≡ b
           → reduced F.ring (length s.basis) (vectors_of F s.basis) (pivot s) v j ≡ F.zero
       go j true e = L.tests.same_true _ _ e
-      go j false e = absurd (let p : length s.basis < length t.basis = dimension-proper F L.laws
-          L.tests L.finite.field s t space inside v h
+      go j false e = absurd
+          (let p : length s.basis < length t.basis = dimension-proper L s t space inside v h
           (λ k. apart (sym (L.tests.same_refl F.zero) ∙ ap (λ x. F.same x F.zero)
           (sym (inside-reduced F.ring L.laws
           (length s.basis) (vectors_of F s.basis) (pivot s) space.echelon v k j)) ∙ e)) in omega
@@ -167,7 +167,7 @@ module _ (F : Elements ℕ) (L : Lawful F) (f : List (List ℕ)) (hf : IsPlane F
             (plane_with_shape K δ n v))
 
     pub turn_smaller : length next.basis ≤ length space.basis
-    turn_smaller = dimension-subspace F L.laws L.tests L.finite.field next space hn.space
+    turn_smaller = dimension-subspace L next space hn.space
         turn_inside
 
     -- where the dimension stands still, there are integral elements alone

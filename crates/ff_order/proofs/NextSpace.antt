@@ -132,7 +132,7 @@ module _ (F : Elements ℕ) (L : Lawful F) (f : List (List ℕ)) (hf : IsPlane F
           → pred (size F.ring (poly_of F rows.d)) ≤ pred (size F.ring
           (power (polynomials F.ring) (poly_of F rows.d) (suc j)))
       go a b = let s : size F.ring (power (polynomials F.ring) d (suc j)) ≡ suc (plus_ℕ a.0 b.0)
-          = size-mul F.ring L.laws L.tests F.inverse L.finite.field d
+          = size-mul (lawful_field L) d
           (power (polynomials F.ring) d j) a.0 b.0 a.1 b.1 in omega (arith, s, a.1)
 
   pub top_longer : (top : List ℕ)

@@ -132,9 +132,11 @@ module _ (F : Elements ℕ) (L : Lawful F) (f : List (List ℕ)) (hf : IsPlane F
         (algebra_laws F L f hf two) (chart_of L f o.chart) (chart_laws F L f hf two o.chart)
         (local_order F L f hf two o h closed) (F.value p.a) modulus) (fibre (lawful_field L)
         (algebra_in L f) (algebra_laws F L f hf two) (chart_of L f o.chart)
-        (chart_laws F L f hf two o.chart) (local_order F L f hf two o h closed) (F.value p.a) modulus
+        (chart_laws F L f hf two o.chart) (local_order F L f hf two o h closed)
+        (F.value p.a) modulus
         (data_fibre F L f hf two o h closed (F.value p.a) modulus s b.basis b.products)) chi A.one
-        _ F.one (one_value F L f hf two o h closed (F.value p.a) modulus s b chi (vector_of F one) k)
+        _ F.one (one_value F L f hf two o h closed (F.value p.a) modulus s b chi
+        (vector_of F one) k)
         functional.unit;
     products = λ i q j r. sym (same_product (table i j) cut (first_below F.ring n chi))
         ∙ ap (λ m. product F.ring m (table i j) chi) (sym rows_count)

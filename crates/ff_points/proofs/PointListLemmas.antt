@@ -1,5 +1,6 @@
 -- Lists of points into which points are put, and the points that characters give.
-use Rattle.std.proofs.Common.{◌≡◌, ℕ, zero, suc, ◌+◌, ◌-◌, ◌<◌, ◌≤◌, ◌⊎◌, inl, inr, List, [], ◌∷◌, length}
+use Rattle.std.proofs.Common.{◌≡◌, ℕ, zero, suc, ◌+◌, ◌-◌, ◌<◌, ◌≤◌, ◌⊎◌, inl, inr, List, [], ◌∷◌}
+use Rattle.std.proofs.Common.{length}
 use Rattle.std.proofs.Common.{get_or, refl, sym, ◌∙◌, ap, ap₂, subst, arith, All}
 use Rattle.std.specs.List.{insert}
 use Rattle.std.specs.declared.cmp.Ordering.TheVariants.{Less}
@@ -126,17 +127,20 @@ inserted_rising F old new i p at e rising = subst (AreRising F) (sym e) all
           where
             near : (k + 1 < i) ⊎ (i ≤ k + 1)
                 → Below F (get_or (insert old i p) k d) (get_or (insert old i p) (k + 1) d)
-            near (inl c) = ap₂ (λ a b. key_cmp (point_key F a) (point_key F b)) (below k d b) (below (k + 1) d c)
+            near (inl c) = ap₂ (λ a b. key_cmp (point_key F a) (point_key F b)) (below k d b)
+                (below (k + 1) d c)
                 ∙ rising k d (let w = at.within in omega (arith, c, w))
             near (inr c) = let back : k ≡ i - 1 = omega (arith, b, c) in
-                ap₂ (λ a b. key_cmp (point_key F a) (point_key F b)) (below k d b ∙ ap (λ n. get_or old n d) back)
+                ap₂ (λ a b. key_cmp (point_key F a) (point_key F b))
+                (below k d b ∙ ap (λ n. get_or old n d) back)
                 (there (k + 1) d (omega (arith, b, c))) ∙ at.after d (omega (arith, b, c))
         go (inr b) (inl c) = let back : k - 1 + 1 ≡ k = omega (arith, c) in
             ap₂ (λ a b. key_cmp (point_key F a) (point_key F b)) (above' k d c)
             (above k d (omega (arith, c)) ∙ ap (λ n. get_or old n d) (sym back))
             ∙ rising (k - 1) d (omega (arith, c, l, long))
         go (inr b) (inr c) = let same : k ≡ i = omega (arith, b, c) in
-            ap₂ (λ a b. key_cmp (point_key F a) (point_key F b)) (there k d same) (above k d b ∙ ap (λ n. get_or old n d) same)
+            ap₂ (λ a b. key_cmp (point_key F a) (point_key F b)) (there k d same)
+            (above k d b ∙ ap (λ n. get_or old n d) same)
             ∙ at.before d (omega (arith, same, l, long))
 
 pub inserted_with : (F : Elements ℕ) (old new : List Point) (i : ℕ) (p : Point)

@@ -108,7 +108,8 @@ module _ (F : Elements ℕ) (L : Lawful F) (f : List (List ℕ)) (hf : IsPlane F
               sound = λ closed. character_point F L f hf two o h closed (get_or list i d)
                   (new.form i d below) s (subst (λ t. IsFibreAt L f o (F.value t) s)
                   (sym q.1.1.a_is) b) (vectors_of F (rows_of characters) q.0)
-                  (is_character q.0 q.1.0) (vector_of F theta) of_theta (vectors_of F basis) of_basis
+                  (is_character q.0 q.1.0) (vector_of F theta) of_theta
+                  (vectors_of F basis) of_basis
                   (theta_by q.0 q.1.0 (get_or list i d) q.1.1)
                   (values_by q.0 q.1.0 (get_or list i d) q.1.1);
             }

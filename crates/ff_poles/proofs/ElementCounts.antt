@@ -14,6 +14,7 @@ use Rattle.ff_theory.proofs.Solver.{◌⊕◌, ◌⊗◌, neg, nil, unit, ring1,
 use Rattle.ff_theory.proofs.Sums.{sum-ext, sum-mul, sum-swap, sum-zero}
 use Rattle.ff_theory.proofs.Constants.{constant_map}
 use Rattle.ff_theory.proofs.Dependence.{dependence}
+use Rattle.ff_theory.proofs.Domains.{field_domain}
 use Rattle.ff_table.specs.PoleOrders.{ArePoleSpaces, AreSteps}
 use Rattle.ff_elem.specs.declared.elem.Elem.{Elem}
 use Rattle.ff_elem.specs.Elem.{algebra_in}
@@ -46,11 +47,6 @@ module _ (F : Elements ℕ) (L : Lawful F) (f : List (List ℕ)) (hf : IsPlane F
   constant_sum zero h = M.on_zero
   constant_sum (suc n) h = M.on_add (sum_below F.ring n h) (h n)
       ∙ ap (λ t. A.add t (constant_in L f (h n))) (constant_sum n h)
-
-  domain : (a b : F.carrier) → F.mul a b ≡ F.zero → ¬ (b ≡ F.zero) → a ≡ F.zero
-  domain a b e n = ring1 F.ring L.laws (λ a. a) (λ a. a ⊗ unit) refl a
-      ∙ ap (F.mul a) (sym (L.finite.field.mul_inverse b n)) ∙ sym (L.laws.mul_assoc a b _)
-      ∙ ap (λ t. F.mul t (F.inverse b)) e ∙ zero_mul F.ring L.laws (F.inverse b)
 
   abbrev pub AreIndependent : ℕ → (ℕ → (algebra_in L f).carrier) → Type 0
   AreIndependent r v = (c : ℕ → F.carrier) → combination_in L f r c v ≡ (algebra_in L f).zero
@@ -100,8 +96,7 @@ module _ (F : Elements ℕ) (L : Lawful F) (f : List (List ℕ)) (hf : IsPlane F
             ∙ sum-zero A AL s) d.index d.below))
           where
             d : Dependence F.ring r s a
-            d = dependence F.ring L.laws L.tests L.finite.field.one_not_zero domain s r
-                a l
+            d = dependence (field_domain (lawful_field L)) s r a l
 
   -- the spaces of a point
   module _ (o : Order) (p : Point) (other : Order) (at : IsPlace L f o p other)

@@ -184,7 +184,7 @@ module _ (F : Elements ℕ) (L : Lawful F)
         go : (n : ℕ) → size F.ring r ≡ n → size F.ring r ≡ suc d
         go zero e = absurd (zero_order (s.e * d) (subst (OrderIs F L f hf two o p other at
             (s.e * d)) (ap (poly_at K (plane_of F f) (elem_of L f t.z))
-            (no_size F.ring L.laws L.tests F.inverse L.finite.field r e) ∙ E.on_zero) k))
+            (no_size (lawful_field L) r e) ∙ E.on_zero) k))
         go (suc n) e = e ∙ ap suc (cancelled (one-order K A AL ι (HasPoleUpTo L f o p other) up
             (t.e * n) (s.e * d) (poly_at K (plane_of F f) (elem_of L f t.z) r)
             (order_of t h count_t r n e) k))

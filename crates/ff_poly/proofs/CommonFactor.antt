@@ -38,7 +38,7 @@ module _ (F : Field) where
   sized p np = go (size F.ring p) refl
     where
       go : (k : ℕ) → size F.ring p ≡ k → (n : ℕ) × (size F.ring p ≡ suc n)
-      go zero e = absurd (np (no_size F.ring F.laws F.tests F.inverse F.is_field p e))
+      go zero e = absurd (np (no_size F p e))
       go (suc n) e = (n, e)
 
   -- what divides 1 is a constant
@@ -59,8 +59,7 @@ module _ (F : Field) where
         n.1,
         one_size F,
         ap (size F.ring) h.1,
-        size-mul F.ring F.laws F.tests
-            F.inverse F.is_field h.0 d m.0 n.0 m.1 n.1,
+        size-mul F h.0 d m.0 n.0 m.1 n.1,
       )
 
   -- a quotient of two polynomials with the same leading coefficient is monic
@@ -123,7 +122,7 @@ module _ {E : Type 0} (K : Elements E) (L : Lawful K) where
       go : (k : ℕ) → size K.ring b ≡ k → (polynomials K.ring).mul q b ≡ a
       go zero e = absurd (omega (arith, e, d.smaller))
       go (suc n) e = ap (λ t. (polynomials K.ring).mul t b)
-          (one_division K.ring L.laws L.tests K.inverse L.finite.field b n e a q r h.0
+          (one_division (lawful_field L) b n e a q r h.0
           (polynomials K.ring).zero d (record {
             sum = h.1 ∙ sym ((PL F).add_zero ((polynomials K.ring).mul h.0 b));
             smaller = omega (arith, e, zero_size F);
@@ -229,8 +228,9 @@ module _ {E : Type 0} (K : Elements E) (L : Lawful K) where
         ∙ mul_zero (polynomials K.ring) P (poly_of K low)))
 
     den_size : size K.ring (poly_of K den) ≡ suc (low_size.0 + common_size.0)
-    den_size = ap (size K.ring) (sym whole) ∙ size-mul K.ring L.laws L.tests K.inverse
-        L.finite.field (poly_of K low) (poly_of K common) low_size.0 common_size.0 low_size.1
+    den_size = ap (size K.ring) (sym whole)
+        ∙ size-mul (lawful_field L) (poly_of K low)
+        (poly_of K common) low_size.0 common_size.0 low_size.1
         common_size.1
 
     lead_one : coeff K.ring (poly_of K low).coeffs low_size.0 ≡ K.one

@@ -3,7 +3,7 @@ use Rattle.std.proofs.Common.{not, cond, nat_eq, IsTrue, List, [], ◌∷◌, �
 use Rattle.std.proofs.Common.{refl, sym, ◌∙◌, ap, ap₂, arith}
 use Rattle.std.proofs.lemmas.Bool.{cases_lt, ne_eqb}
 use Rattle.std.proofs.lemmas.List.{length-map}
-use Rattle.ff_theory.specs.Ring.{RingOps, IsCommRing, IsTested, IsField, Elements, power}
+use Rattle.ff_theory.specs.Ring.{RingOps, IsCommRing, IsTested, Elements, power}
 use Rattle.ff_theory.specs.Poly.{coeff, ends_in_nonzero, Poly, poly, polynomials}
 use Rattle.ff_theory.specs.Division.{size}
 use Rattle.ff_theory.proofs.Solver.{zero_mul}
@@ -14,6 +14,7 @@ use Rattle.ff_theory.proofs.Gcd.{no_size}
 use Rattle.ff_theory.proofs.PolyMap.{same_false}
 use Rattle.ff_theory.specs.Values.{poly_of, plane_of, IsPlane, x_size}
 use Rattle.ff_theory.specs.Monic.{monic_rows, monic_form, rows_of}
+use Rattle.ff_theory.specs.Lawful.{Field, Lawful, lawful_field}
 use Rattle.ff_poly.proofs.LongDivision.{poly-size}
 use Rattle.ff_poly.proofs.RowLists.{row-value}
 
@@ -159,8 +160,9 @@ x_size-greatest R [] = refl
 x_size-greatest R (p ∷ L) = ap (max (size R p)) (x_size-greatest R L)
     ∙ sym (greatest-front (length L) (λ i. size R (coeff (polynomials R) (p ∷ L) i)))
 
-module _ (R : RingOps) (laws : IsCommRing R) (tests : IsTested R) (inverse : R.carrier → R.carrier)
-    (field : IsField R inverse) where
+module _ (F : Field) where
+  open F use {ring as R, laws, tests, is_field as field}
+
   PL : IsCommRing (polynomials R)
   PL = polynomial_laws R laws tests
 
@@ -176,7 +178,7 @@ module _ (R : RingOps) (laws : IsCommRing R) (tests : IsTested R) (inverse : R.c
   pub power-size : (t : Poly R) (m e : ℕ) → size R t ≡ suc m → size R (power (polynomials R) t e)
       ≡ suc (e * m)
   power-size t m zero h = one-size ∙ (let k : 1 ≡ suc (0 * m) = omega arith in k)
-  power-size t m (suc e) h = size-mul R laws tests inverse field t (power (polynomials R) t e) m
+  power-size t m (suc e) h = size-mul F t (power (polynomials R) t e) m
       (e * m) h (power-size t m e h) ∙ (let k : suc (m + e * m)
       ≡ suc (suc e * m) = omega (arith, suc-mul e m) in k)
     where
@@ -190,11 +192,11 @@ module _ (R : RingOps) (laws : IsCommRing R) (tests : IsTested R) (inverse : R.c
   row-degree a t m e zero d ht ha hz hp =
       let none : size R ((polynomials R).mul a (power (polynomials R) t e))
       ≡ 0 = ap (size R) (ap (λ a. (polynomials R).mul a (power (polynomials R) t e))
-      (no_size R laws tests inverse field a ha) ∙ zero_mul (polynomials R) PL
+      (no_size F a ha) ∙ zero_mul (polynomials R) PL
       (power (polynomials R) t e)) ∙ zero-size in
       omega (arith, none, hz refl)
   row-degree a t m e (suc s) d ht ha hz hp =
-      let n = size-mul R laws tests inverse field a (power (polynomials R) t e) s (e * m) ha
+      let n = size-mul F a (power (polynomials R) t e) s (e * m) ha
       (power-size t m e ht) in
       omega (arith, n, hp (omega arith))
 
@@ -236,8 +238,9 @@ module _ (R : RingOps) (laws : IsCommRing R) (tests : IsTested R) (inverse : R.c
           (hz i l) (hp i l) ∙ ap (λ (a : Poly R). max (size R a) 1)
           (sym (monic-below P t p n i lp l))
 
-module _ {E : Type 0} (K : Elements E) (laws : IsCommRing K.ring) (tests : IsTested K.ring)
-    (field : IsField K.ring K.inverse) where
+module _ {E : Type 0} {K : Elements E} (L : Lawful K) where
+  open L use {laws, tests}
+
   row-size : (rows : List (List E)) (i : ℕ) → IsPlane K rows → i < length rows
       → size K.ring (coeff (polynomials K.ring) (map (λ p. poly_of K p) rows) i)
       ≡ length (get_or rows i [])
@@ -250,7 +253,7 @@ module _ {E : Type 0} (K : Elements E) (laws : IsCommRing K.ring) (tests : IsTes
       → d ≡ greatest n (row_degree_of rows n m) → d + 1
       ≡ x_size (rows_of K.ring (monic_form (polynomials K.ring) (plane_of K rows)))
   rows_degree rows n m d lead h ln pos hl hm hd =
-      ap (λ d. d + 1) hd ∙ monic-degree K.ring laws tests K.inverse field
+      ap (λ d. d + 1) hd ∙ monic-degree (lawful_field L)
       (map (λ p. poly_of K p) rows) n m (row_degree_of rows n m) h.canonical
       (length-map rows (λ p. poly_of K p) ∙ ln)
       (row-size rows n h (omega arith) ∙ sym (ap length hl)

@@ -2,7 +2,7 @@ use Rattle.std.proofs.Common.{◌≡◌, ℕ, zero, suc, ◌+◌, ◌-◌, ◌<�
 use Rattle.std.proofs.Common.{length, map, get_or, refl, sym, ◌∙◌, ap, ap₂, subst, arith, All}
 use Rattle.std.proofs.lemmas.Bool.{cases_lt}
 use Rattle.std.proofs.lemmas.List.{length-map}
-use Rattle.ff_theory.specs.Ring.{RingOps, IsCommRing, IsTested, IsField, Elements, IsElement}
+use Rattle.ff_theory.specs.Ring.{RingOps, IsCommRing, IsTested, Elements, IsElement}
 use Rattle.ff_theory.specs.Poly.{coeff, Poly, poly, polynomials, list_scale}
 use Rattle.ff_theory.specs.Division.{size}
 use Rattle.ff_theory.proofs.Division.{size-mul}
@@ -12,6 +12,7 @@ use Rattle.ff_theory.proofs.Coeffs.{coeff-past, add_by_coeffs}
 use Rattle.ff_theory.specs.Values.{poly_of, IsPoly, IsPlane}
 use Rattle.ff_theory.specs.Planes.{row_of, IsPseudoDivision}
 use Rattle.ff_theory.specs.Monomial.{raised, monomial}
+use Rattle.ff_theory.specs.Lawful.{Lawful, lawful_field}
 use Rattle.ff_theory.proofs.Monomial.{monomial-mul, raised-at, raised-below, raised-past}
 use Rattle.ff_poly.proofs.LongDivision.{last_nonzero, poly-size}
 use Rattle.ff_poly.proofs.RowLists.{row-value, row-each}
@@ -43,11 +44,14 @@ module _ {E : Type 0} (K : Elements E) (laws : IsCommRing K.ring) (tests : IsTes
       go [] e = absurd (nonzero (ap (poly_of K) e))
       go (x ∷ q) e = omega (arith, ap length e)
 
+module _ {E : Type 0} {K : Elements E} (L : Lawful K) where
+  open L use {laws, tests}
+
   -- a product of polynomials that are not zero
-  pub product_nonzero : IsField K.ring K.inverse → (p q r : List E) → IsPoly K p → IsPoly K q
+  pub product_nonzero : (p q r : List E) → IsPoly K p → IsPoly K q
       → IsPoly K r → poly_of K r ≡ (polynomials K.ring).mul (poly_of K p) (poly_of K q)
       → 0 < length p → 0 < length q → 0 < length r
-  product_nonzero field p q r hp hq hr e lp lq =
+  product_nonzero p q r hp hq hr e lp lq =
       let sp : size K.ring (poly_of K p) ≡ suc (length p - 1) = poly-size K.ring laws tests K.value
       p hp.canonical ∙ (let n : length p ≡ suc (length p - 1) = omega arith in n) in
       let sq : size K.ring (poly_of K q) ≡ suc (length q - 1) = poly-size K.ring laws tests K.value
@@ -55,7 +59,7 @@ module _ {E : Type 0} (K : Elements E) (laws : IsCommRing K.ring) (tests : IsTes
       omega (
         arith,
         sym (poly-size K.ring laws tests K.value r hr.canonical) ∙ ap (size K.ring) e
-            ∙ size-mul K.ring laws tests K.inverse field (poly_of K p) (poly_of K q) (length p - 1)
+            ∙ size-mul (lawful_field L) (poly_of K p) (poly_of K q) (length p - 1)
             (length q - 1) sp sq,
       )
 

@@ -2,7 +2,7 @@ use Rattle.std.proofs.Common.{◌≡◌, ℕ, zero, suc, ◌+◌, ◌-◌, ◌<�
 use Rattle.std.proofs.Common.{map, get_or, refl, sym, ◌∙◌, ap, ap₂, subst, arith}
 use Rattle.std.proofs.lemmas.List.{nil_from_length}
 use Rattle.ff_theory.specs.Ring.{RingOps, IsCommRing, IsTested, Elements}
-use Rattle.ff_theory.specs.Lawful.{Lawful}
+use Rattle.ff_theory.specs.Lawful.{Lawful, lawful_field}
 use Rattle.ff_theory.specs.Poly.{coeff, list_scale, Poly, poly, polynomials}
 use Rattle.ff_theory.specs.Division.{size}
 use Rattle.ff_theory.proofs.Solver.{◌⊗◌, ring3, mul_zero, zero_mul}
@@ -52,7 +52,7 @@ module _ {E : Type 0} (K : Elements E) (L : Lawful K) where
   scaled-size c p n nc e = let one : size K.ring (monomial K.ring c 0)
       ≡ suc 0 = ap (λ b. length (cond b [] (c ∷ []))) (same_false K.ring L.tests c K.zero nc) in
       let whole : size K.ring ((polynomials K.ring).mul (monomial K.ring c 0) p)
-      ≡ suc (0 + n) = size-mul K.ring L.laws L.tests K.inverse L.finite.field (monomial K.ring c 0)
+      ≡ suc (0 + n) = size-mul (lawful_field L) (monomial K.ring c 0)
       p 0 n one e in omega (arith, whole)
 
   -- the multiple with the leading coefficient d

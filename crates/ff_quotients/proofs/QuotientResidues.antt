@@ -36,7 +36,7 @@ pub variable_power_size : (K : Field) (m : ℕ)
     → size K.ring (power (polynomials K.ring) (variable K.ring) m) ≡ suc m
 variable_power_size K zero = one_size K
 variable_power_size K (suc m) = let s : size K.ring (power (polynomials K.ring) (variable K.ring)
-    (suc m)) ≡ suc (plus_ℕ 1 m) = size-mul K.ring K.laws K.tests K.inverse K.is_field
+    (suc m)) ≡ suc (plus_ℕ 1 m) = size-mul K
     (variable K.ring) (power (polynomials K.ring) (variable K.ring) m) 1 m (variable_size K)
     (variable_power_size K m) in
     let z : suc (plus_ℕ 1 m) ≡ suc (suc m) = omega arith in s ∙ z
@@ -68,7 +68,7 @@ module _ (K : Field) where
   pub shift_size : (h : ℕ) (p : Poly K.ring) (b : ℕ) → size K.ring p ≡ suc b
       → size K.ring ((polynomials K.ring).mul (power (polynomials K.ring) (variable K.ring) h) p)
       ≡ suc (plus_ℕ h b)
-  shift_size h p b e = size-mul K.ring K.laws K.tests K.inverse K.is_field
+  shift_size h p b e = size-mul K
       (power DV.ring (variable K.ring) h) p h b (variable_power_size K h) e
 
   -- Where x^h * (N + d * q) has a short quotient by x * d, and N is shorter than d, q is short.
@@ -83,7 +83,7 @@ module _ (K : Field) where
 
     divisor_size : size K.ring (DV.mul (variable K.ring) d) ≡ suc (suc k)
     divisor_size = let s : size K.ring (DV.mul (variable K.ring) d) ≡ suc (plus_ℕ 1 k)
-        = size-mul K.ring K.laws K.tests K.inverse K.is_field (variable K.ring) d 1 k
+        = size-mul K (variable K.ring) d 1 k
         (variable_size K) hd in omega (arith, s)
 
     raised_size : size K.ring (DV.mul (power DV.ring (variable K.ring) h) S)
@@ -119,10 +119,10 @@ module _ (K : Field) where
             → size K.ring q ≤ suc m - h
         go zero e c = omega (arith, e)
         go (suc b) e (inl c) = let z : size K.ring (DV.mul d q) ≡ suc (plus_ℕ k b)
-            = size-mul K.ring K.laws K.tests K.inverse K.is_field d q k b hd e in
+            = size-mul K d q k b hd e in
             omega (arith, e, c, z, product_size)
         go (suc b) e (inr c) = absurd (let z : size K.ring (DV.mul d q) ≡ suc (plus_ℕ k b)
-            = size-mul K.ring K.laws K.tests K.inverse K.is_field d q k b hd e in
+            = size-mul K d q k b hd e in
             omega (arith, e, c, z, product_size))
 
 module _ (K : Field) (A : RingOps) (AL : IsCommRing A) (c : Chart K.ring A) (l : IsChart K.ring A c)
@@ -233,8 +233,8 @@ module _ (K : Field) (A : RingOps) (AL : IsCommRing A) (c : Chart K.ring A) (l :
   remainder_size : (i : ℕ) → i < r → size K.ring (R i) ≤ suc k
   remainder_size i q = let s : size K.ring (R i) < size K.ring (P.mul X d) = (division i q).smaller
       in
-      let z : size K.ring (P.mul X d) ≡ suc (plus_ℕ 1 k) = size-mul K.ring K.laws K.tests K.inverse
-      K.is_field X d 1 k (variable_size K) hd in omega (arith, s, z)
+      let z : size K.ring (P.mul X d) ≡ suc (plus_ℕ 1 k) = size-mul K X d 1 k (variable_size K) hd
+      in omega (arith, s, z)
 
   rest_powers : InPowers (inverted c t e)
       (sum_below A r (λ i. l.inverse d * at_u c (R i) * power A ψ i))

@@ -13,7 +13,7 @@ use Rattle.ff_theory.proofs.Listed.{listed-at, listed-past}
 use Rattle.ff_theory.proofs.Solver.{◌⊕◌, ◌⊗◌, neg, nil, unit, ring1, ring2, ring4, mul_zero}
 use Rattle.ff_theory.proofs.Solver.{zero_mul}
 use Rattle.ff_theory.proofs.Sums.{sum-ext, sum-zero, sum-mul}
-use Rattle.ff_table.proofs.LinearRelation.{nonzero_factor}
+use Rattle.ff_theory.proofs.Domains.{field_domain}
 use Rattle.ff_table.proofs.RootOrders.{last}
 
 -- n vectors of length n, of which none is a combination of those before it, have each vector as a
@@ -38,14 +38,13 @@ module _ (K : Field) where
   last-in_span n v ends alone = place (cases_lt m.0 n) (cases_lt m.0 (suc n))
     where
       d : Dependence k (suc n) n v
-      d = dependence k K.laws K.tests K.is_field.one_not_zero (nonzero_factor K) n (suc n) v
-          (omega arith)
+      d = dependence (field_domain K) n (suc n) v (omega arith)
 
       c : ℕ → K.carrier
       c i = coeff k (listed (suc n) d.coefficients) i
 
       m : (m : ℕ) × ((i : ℕ) → m < i → c i ≡ K.zero) × ¬ (c m ≡ K.zero)
-      m = last k K.laws K.tests n c (λ i l. listed-past k (suc n) d.coefficients i l) d.index
+      m = last (field_domain K) n c (λ i l. listed-past k (suc n) d.coefficients i l) d.index
           (λ z. d.nonzero (sym (listed-at k (suc n) d.coefficients d.index d.below) ∙ z))
 
       inv : K.carrier

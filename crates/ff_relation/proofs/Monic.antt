@@ -5,7 +5,7 @@ use Rattle.std.proofs.Common.{refl, sym, ◌∙◌}
 use Rattle.std.proofs.Common.{ap, ap₂, arith}
 use Rattle.std.proofs.lemmas.Bool.{cases_lt}
 use Rattle.ff_theory.specs.Ring.{Elements}
-use Rattle.ff_theory.specs.Lawful.{Lawful}
+use Rattle.ff_theory.specs.Lawful.{Lawful, lawful_field}
 use Rattle.ff_theory.specs.Poly.{coeff, Poly}
 use Rattle.ff_theory.specs.Division.{size}
 use Rattle.ff_theory.specs.Vector.{vector_of}
@@ -82,7 +82,7 @@ module _ {F : Elements ℕ} (L : Lawful F) where
 
       whole : size F.ring ((polys_over F).mul (poly_of F p) (poly_of F q))
           ≡ suc ((length p - 1) + (length q - 1))
-      whole = size-mul F.ring L.laws L.tests F.inverse L.finite.field (poly_of F p) (poly_of F q)
+      whole = size-mul (lawful_field L) (poly_of F p) (poly_of F q)
           (length p - 1) (length q - 1) sp sq
 
   -- the entry that was pushed last

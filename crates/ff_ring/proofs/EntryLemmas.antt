@@ -1,11 +1,12 @@
 -- Lists of polynomials that grow by one entry.
-use Rattle.std.proofs.Common.{◌≡◌, ℕ, zero, suc, ◌+◌, ◌<◌, List, [], ◌∷◌, ◌++◌, length, get_or, sym, ◌∙◌, ap}
-use Rattle.std.proofs.Common.{subst, arith, refl, All, nat_eq, true, false}
+use Rattle.std.proofs.Common.{◌≡◌, ℕ, zero, suc, ◌+◌, ◌<◌, List, [], ◌∷◌, ◌++◌, length, get_or, sym}
+use Rattle.std.proofs.Common.{◌∙◌, ap}
+use Rattle.std.proofs.Common.{subst, arith, refl, nat_eq, true, false}
 use Rattle.std.proofs.lemmas.Bool.{eqb-true, eq-eqb}
 use Rattle.std.proofs.lemmas.List.{nil_from_length}
 use Rattle.std.proofs.lemmas.List.Elements.{All-push}
 use Rattle.ff_theory.specs.Ring.{Elements}
-use Rattle.ff_theory.specs.Poly.{Poly, coeff}
+use Rattle.ff_theory.specs.Poly.{Poly}
 use Rattle.ff_theory.specs.Values.{poly_of, polys_over, IsPoly, ArePolys}
 use Rattle.ff_theory.proofs.Coeffs.{coeff-push, coeff-map}
 use Rattle.ff_ring.specs.Entries.{entry_at, AreEntries}

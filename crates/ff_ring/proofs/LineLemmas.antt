@@ -1,6 +1,6 @@
 -- Polynomials at alpha * z + beta, and combinations with such polynomials.
 use Rattle.std.proofs.Common.{◌≡◌, ℕ, suc, ◌+◌, ◌-◌, ◌<◌, List, [], ◌∷◌, length, map, get_or, drop}
-use Rattle.std.proofs.Common.{sym, ◌∙◌, ap, ap₂, subst, arith, refl}
+use Rattle.std.proofs.Common.{sym, ◌∙◌, ap, ap₂, arith, refl}
 use Rattle.std.proofs.lemmas.List.{drop_more}
 use Rattle.ff_theory.specs.Ring.{RingOps, IsCommRing, Elements}
 use Rattle.ff_theory.specs.Lawful.{Lawful}
@@ -10,7 +10,6 @@ use Rattle.ff_theory.specs.Sum.{sum_below}
 use Rattle.ff_theory.specs.Values.{poly_of, polys_over, IsPoly, ArePolys}
 use Rattle.ff_theory.proofs.Poly.{polynomial_laws, trim_same}
 use Rattle.ff_theory.proofs.Solver.{zero_mul}
-use Rattle.ff_poly.proofs.RowLists.{row-value}
 use Rattle.ff_ring.specs.Entries.{entry_at, AreEntries}
 use Rattle.ff_ring.specs.Affine.{line, value_of_list, affine_at, sum_at_line}
 
@@ -22,7 +21,8 @@ module _ (F : Elements ℕ) (L : Lawful F) where
   PL = polynomial_laws F.ring L.laws L.tests
 
   -- one coefficient more
-  pub value-more : (y v : Poly F.ring) (p : List ℕ) (i j c : ℕ) → 0 < i → j ≡ i - 1 → i < length p + 1
+  pub value-more : (y v : Poly F.ring) (p : List ℕ) (i j c : ℕ) → 0 < i → j ≡ i - 1
+      → i < length p + 1
       → c ≡ get_or p j 0
       → v ≡ eval_list (polys_over F) (λ c. poly F.ring (c ∷ [])) y (map F.value (drop i p))
       → (polys_over F).add (poly_of F (c ∷ [])) ((polys_over F).mul y v)
@@ -38,7 +38,8 @@ module _ (F : Elements ℕ) (L : Lawful F) where
   pub value-none : (y : Poly F.ring) (p : List ℕ) (i : ℕ) → i ≡ length p
       → eval_list (polys_over F) (λ c. poly F.ring (c ∷ [])) y (map F.value (drop i p))
       ≡ (polys_over F).zero
-  value-none y p i e = ap (λ n. eval_list P (λ c. poly F.ring (c ∷ [])) y (map F.value (drop n p))) e
+  value-none y p i e = ap
+      (λ n. eval_list P (λ c. poly F.ring (c ∷ [])) y (map F.value (drop n p))) e
       ∙ ap (λ t. eval_list P (λ c. poly F.ring (c ∷ [])) y (map F.value t)) (none p)
     where
       none : (p : List ℕ) → drop (length p) p ≡ []
@@ -87,7 +88,8 @@ module _ (F : Elements ℕ) (L : Lawful F) where
       → a ≡ get_or list l []
       → AreEntries F e (sum_at_line F alpha beta c list l) old
       → AreEntries F n
-      (λ h. (polys_over F).add (entry_at F old h) ((polys_over F).mul (poly_of F f) (entry_at F a h)))
+      (λ h. (polys_over F).add (entry_at F old h)
+      ((polys_over F).mul (poly_of F f) (entry_at F a h)))
       new → AreEntries F e (sum_at_line F alpha beta c list m) new
   sum-line-more alpha beta c list old new f x a l m e n em en ef ex ea u v = record {
     each = v.each;

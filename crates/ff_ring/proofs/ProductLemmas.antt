@@ -1,20 +1,20 @@
 -- Products of coordinates by the table.
 use Rattle.std.proofs.Common.{◌≡◌, ℕ, zero, suc, ◌+◌, ◌<◌, ◌≤◌, List, [], ◌∷◌, length}
-use Rattle.std.proofs.Common.{get_or, sym, ◌∙◌, ap, ap₂, subst, arith, refl, All}
+use Rattle.std.proofs.Common.{get_or, sym, ◌∙◌, ap, ap₂, arith, All}
 use Rattle.ff_theory.specs.Ring.{RingOps, IsCommRing, Elements, IsElement}
 use Rattle.ff_theory.specs.Lawful.{Lawful}
 use Rattle.ff_theory.specs.Poly.{Poly}
 use Rattle.ff_theory.specs.Sum.{sum_below}
-use Rattle.ff_theory.specs.Values.{poly_of, polys_over, IsPoly, ArePolys, x_size}
+use Rattle.ff_theory.specs.Values.{poly_of, polys_over, ArePolys, x_size}
 use Rattle.ff_theory.proofs.Poly.{polynomial_laws}
 use Rattle.ff_theory.proofs.Sums.{sum-ext, sum-zero}
 use Rattle.ff_theory.proofs.Solver.{zero_mul}
 use Rattle.ff_poly.proofs.RowLists.{row-each, row-length, row-value}
 use Rattle.ff_data.specs.declared.system.System.{System}
-use Rattle.ff_data.specs.Systems.{AreCoords, product_at}
+use Rattle.ff_data.specs.Systems.{AreCoords}
 use Rattle.ff_ring.specs.Entries.{entry_at, AreEntries}
-use Rattle.ff_ring.specs.Ring.{HasTable, basis_product, table_entry, plus_basis_product_at}
-use Rattle.ff_ring.specs.Ring.{plus_product_at, product}
+use Rattle.ff_ring.specs.Ring.{table_entry, plus_basis_product_at}
+use Rattle.ff_ring.specs.Ring.{plus_product_at}
 
 -- an entry of a list in which all have a property that the empty list has
 pub at-each : {A : Type 0} (Q : List A → Type 0) (xs : List (List A)) (j : ℕ) → Q [] → All Q xs
@@ -104,7 +104,8 @@ module _ (F : Elements ℕ) (L : Lawful F) where
     each = new.each;
     count = new.count;
     value = λ l q. new.value l q ∙ ap₂ P.add (old.value l q)
-        (ap (λ t. sum_below P s.e (λ j. P.mul t (P.mul (entry_at F b j) (table_entry F s i j l)))) w)
+        (ap (λ t. sum_below P s.e (λ j. P.mul t (P.mul (entry_at F b j) (table_entry F s i j l))))
+        w)
         ∙ ap (λ n. sum_below P n (λ i. sum_below P s.e (λ j. P.mul (entry_at F a i)
         (P.mul (entry_at F b j) (table_entry F s i j l))))) (sym e);
   }

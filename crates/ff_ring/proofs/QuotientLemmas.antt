@@ -1,10 +1,10 @@
 -- Quotients of polynomials without a remainder.
-use Rattle.std.proofs.Common.{◌≡◌, ℕ, ◌+◌, ◌<◌, ◌≤◌, ◌⊎◌, inl, inr, List, [], ◌∷◌, ◌++◌, length, true, false}
+use Rattle.std.proofs.Common.{◌≡◌, ℕ, ◌+◌, ◌<◌, ◌≤◌, ◌⊎◌, inl, inr, List, [], ◌∷◌, ◌++◌, length}
 use Rattle.std.proofs.Common.{refl, sym, ◌∙◌, ap, subst, arith}
 use Rattle.std.proofs.lemmas.Bool.{cases_lt}
 use Rattle.std.proofs.lemmas.List.Elements.{All-push}
 use Rattle.ff_theory.specs.Ring.{Elements}
-use Rattle.ff_theory.specs.Lawful.{Domain, Field, Lawful, lawful_field}
+use Rattle.ff_theory.specs.Lawful.{Domain, Lawful, lawful_field}
 use Rattle.ff_theory.specs.Poly.{Poly, polynomials}
 use Rattle.ff_theory.specs.Division.{IsDivision}
 use Rattle.ff_theory.specs.Divides.{Divides}
@@ -35,7 +35,7 @@ module _ (K : Elements ℕ) (L : Lawful K) where
   no-remainder m rest a q hm pos hr h d =
       let some = nonzero_size (lawful_field L) (poly_of K m) (poly-nonzero K L m hm pos) in
       zero-length rest hr
-      (one_division K.ring L.laws L.tests K.inverse L.finite.field (poly_of K m) some.0 some.1 a q
+      (one_division (lawful_field L) (poly_of K m) some.0 some.1 a q
       (poly_of K rest) d.0 D.zero h (record {
         sum = d.1 ∙ ring2 D.ring D.laws (λ s m. s ⊗ m) (λ s m. s ⊗ m ⊕ nil)
             refl d.0 (poly_of K m);

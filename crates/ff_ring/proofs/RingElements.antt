@@ -1,5 +1,6 @@
 -- Coordinates as elements of the ring of the table: sums, products, and polynomials over the ring.
-use Rattle.std.proofs.Common.{◌≡◌, ℕ, zero, suc, ◌+◌, ◌-◌, ◌<◌, ◌≤◌, List, [], ◌∷◌, ◌++◌, length, get_or}
+use Rattle.std.proofs.Common.{◌≡◌, ℕ, zero, suc, ◌+◌, ◌-◌, ◌<◌, ◌≤◌, List, [], ◌∷◌, ◌++◌, length}
+use Rattle.std.proofs.Common.{get_or}
 use Rattle.std.proofs.Common.{drop, refl, sym, ◌∙◌, ap, ap₂, subst, arith, All}
 use Rattle.std.proofs.lemmas.List.{drop_more, drop_all, append_assoc, length-append}
 use Rattle.std.proofs.lemmas.List.Elements.{All-push}
@@ -15,7 +16,7 @@ use Rattle.ff_theory.proofs.Solver.{◌⊗◌, ring3, zero_mul, ring1, unit}
 use Rattle.ff_theory.proofs.Span.{unit-same, unit-other}
 use Rattle.ff_theory.proofs.Sums.{sum-ext, sum-zero, sum-mul, sum-single}
 use Rattle.ff_table.specs.Coords.{at}
-use Rattle.ff_table.specs.Level.{z_multiple, scaled, basis}
+use Rattle.ff_table.specs.Level.{z_multiple, basis}
 use Rattle.ff_table.specs.Shift.{value_at, shift, carry}
 use Rattle.ff_table.specs.Table.{Table}
 use Rattle.ff_table.proofs.Coords.{coords_ext, coords-at}
@@ -27,7 +28,8 @@ use Rattle.ff_data.specs.Systems.{AreCoords}
 use Rattle.ff_ring.specs.declared.level.Monomial.{Monomial}
 use Rattle.ff_ring.specs.Entries.{entry_at, AreEntries}
 use Rattle.ff_ring.specs.Affine.{term_poly}
-use Rattle.ff_ring.specs.Ring.{AreCoordsList, ring_in, table_in, element_in, elements_in, monomial_in}
+use Rattle.ff_ring.specs.Ring.{AreCoordsList, ring_in, table_in, element_in, elements_in}
+use Rattle.ff_ring.specs.Ring.{monomial_in}
 use Rattle.ff_ring.specs.Ring.{table_entry, plus_basis_product_at, product}
 
 module _ (F : Elements ℕ) (L : Lawful F) (s : System) where
@@ -129,7 +131,8 @@ module _ (F : Elements ℕ) (L : Lawful F) (s : System) where
           (λ j. (polys_over F).mul (entry_at F y j) (table_entry F s a.class j l))
           ≡ at (polys_over F) (length s.weights)
           ((ring_in F s).mul (monomial_in F s a) (element_in F s x)) l
-      each l q = ap (λ n. sum_below P n (λ j. P.mul (entry_at F y j) (table_entry F s a.class j l))) es
+      each l q = ap (λ n. sum_below P n (λ j. P.mul (entry_at F y j) (table_entry F s a.class j l)))
+          es
           ∙ sum-ext P PL e _ _ (λ j o. ap (λ t. P.mul t (table_entry F s a.class j l))
           (u.value j (omega (arith, o, m, es))
           ∙ ap₂ P.mul g (sym (element-at x j o)))
@@ -198,7 +201,8 @@ module _ (F : Elements ℕ) (L : Lawful F) (s : System) where
   carry-start a h p sum i f z =
       ap₂ (λ (x : List (List (List ℕ))) n. elements_in F s x ++ carry_rest a h p n) f z
 
-  pub carry-more : (a : (ring_in F s).carrier) (h : List (List ℕ)) (p sum new : List (List (List ℕ)))
+  pub carry-more : (a : (ring_in F s).carrier) (h : List (List ℕ))
+      (p sum new : List (List (List ℕ)))
       (c low x : List (List ℕ)) (i j : ℕ) → i < length p → j ≡ i + 1 → new ≡ sum ++ c ∷ []
       → low ≡ get_or (h ∷ p) i [] → x ≡ get_or p i []
       → element_in F s c ≡ (ring_in F s).add (element_in F s low)
@@ -244,7 +248,8 @@ module _ (F : Elements ℕ) (L : Lawful F) (s : System) where
       → elements_in F s r ≡ shift (ring_in F s) a (elements_in F s (drop j p))
   shift-more a p m r h i j pos inside f g v w = v
       ∙ ap₂ (λ x y. carry T a (element_in F s x) y) g w
-      ∙ sym (ap (λ t. shift T a (elements_in F s t)) (drop_more p j [] (omega (arith, pos, inside, f))
+      ∙ sym (ap (λ t. shift T a (elements_in F s t))
+      (drop_more p j [] (omega (arith, pos, inside, f))
       ∙ ap (λ n. get_or p j [] ∷ drop n p) (let o : j + 1 ≡ i = omega (arith, pos, f) in o)))
 
   pub shift-whole : (a : (ring_in F s).carrier) (p m : List (List (List ℕ))) (i : ℕ) → i ≡ 0

@@ -1,6 +1,6 @@
 -- Leading terms of coordinates as those of elements of the ring, and leading polynomials.
 use Rattle.std.proofs.Common.{◌≡◌, ℕ, zero, suc, pred, max, ◌+◌, ◌-◌, ◌*◌, ◌%◌, ◌<◌, ◌≤◌, ◌⊎◌}
-use Rattle.std.proofs.Common.{inl, inr, cond, List, [], ◌∷◌, ◌++◌, length, map, get_or, drop}
+use Rattle.std.proofs.Common.{inl, inr, cond, List, [], ◌∷◌, length, map, get_or, drop}
 use Rattle.std.proofs.Common.{refl, sym, ◌∙◌, ap, ap₂, subst, arith, All}
 use Rattle.std.proofs.lemmas.Bool.{cases_lt}
 use Rattle.std.proofs.lemmas.List.{length-map, drop_more, drop_all, get_or_default}
@@ -14,11 +14,10 @@ use Rattle.ff_theory.specs.Division.{size, leading_coeff}
 use Rattle.ff_theory.specs.Values.{poly_of, polys_over, IsPoly, leading}
 use Rattle.ff_theory.proofs.Poly.{trim_same}
 use Rattle.ff_theory.proofs.Coeffs.{coeff-map}
-use Rattle.ff_theory.proofs.Solver.{◌⊗◌, unit, ring2, ring3}
 use Rattle.ff_poly.proofs.RowLists.{row-value}
 use Rattle.ff_table.specs.Coords.{at}
 use Rattle.ff_table.specs.Table.{Table, IsTable, Weighs, weight_of}
-use Rattle.ff_table.specs.Level.{IsLevel, class_of, power_of, at_level, monomial_at, top_constant}
+use Rattle.ff_table.specs.Level.{IsLevel, class_of, at_level, monomial_at, top_constant}
 use Rattle.ff_table.specs.Level.{power_lead}
 use Rattle.ff_table.specs.Roots.{top_weight, leading_poly}
 use Rattle.ff_table.specs.Shift.{leading as leading_list}
@@ -33,7 +32,6 @@ use Rattle.ff_theory.proofs.Poly.{polynomial_laws}
 use Rattle.ff_data.specs.declared.system.System.{System}
 use Rattle.ff_data.specs.Systems.{AreCoords, product_at, weight_at, term_weight}
 use Rattle.ff_ring.specs.declared.weight.Term.{Term}
-use Rattle.ff_ring.specs.Entries.{entry_at}
 use Rattle.ff_ring.specs.Ring.{HasTable, table_in, ring_in, element_in, elements_in}
 use Rattle.ff_ring.specs.Weight.{IsTop, AreZero}
 use Rattle.ff_ring.proofs.ProductLemmas.{at-each}
@@ -226,8 +224,10 @@ module _ (F : Elements ℕ) (L : Lawful F) (s : System) where
         → max m (top_weight F.ring (table_in F s) t (j * t) (elements_in F s (drop j p))) ≡ v
     top-more t p h n m w i j v q f g k o old =
         ap₂ (λ x y. max x (top_weight F.ring S t (y * t) (elements_in F s (drop y p)))) o f
-        ∙ sym (max-group n w (top_weight F.ring S t ((i + 1) * t) (elements_in F s (drop (i + 1) p))))
-        ∙ ap (max n) (ap₂ (λ x y. max x (top_weight F.ring S t y (elements_in F s (drop (i + 1) p))))
+        ∙ sym (max-group n w (top_weight F.ring S t ((i + 1) * t)
+        (elements_in F s (drop (i + 1) p))))
+        ∙ ap (max n) (ap₂ (λ x y. max x
+        (top_weight F.ring S t y (elements_in F s (drop (i + 1) p))))
         (k ∙ ap (λ c. weight_by F s c (i * t)) g)
         (let z : (i + 1) * t ≡ i * t + t = omega arith in z)
         ∙ sym (ap (λ c. top_weight F.ring S t (i * t) (elements_in F s c)) (drop_more p i [] q)))
@@ -340,7 +340,8 @@ module _ (F : Elements ℕ) (L : Lawful F) (s : System) where
       class = k ∙ ap (λ n. (a.class + step.class) % n) (sym form.weights)
           ∙ ap₂ (λ x y. (x + y) % e) h.class (g ∙ ap (λ n. t % n) (sym form.weights))
           ∙ mod-sum (i * t) t e
-          ∙ ap (λ n. n % e) (let z : i * t + t ≡ (i + 1) * t = omega arith in z ∙ ap (λ n. n * t) (sym f));
+          ∙ ap (λ n. n % e) (let z : i * t + t ≡ (i + 1) * t = omega arith in z
+          ∙ ap (λ n. n * t) (sym f));
       c = v ∙ ap₂ (λ x y. F.mul (F.mul x y) (top_constant F.ring S a.class step.class)) h.c u
           ∙ ap (λ x. F.mul x (top_constant F.ring S a.class step.class))
           (L.laws.mul_one (power_lead F.ring S t i))

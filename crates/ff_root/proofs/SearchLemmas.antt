@@ -1,15 +1,13 @@
 -- What the loops of the search cite: lists that grow while their rests shrink.
-use Rattle.std.proofs.Common.{◌≡◌, ℕ, zero, suc, ◌+◌, ◌-◌, ◌*◌, ◌%◌, ◌<◌, ◌≤◌, ◌↔◌, Bool, true, false}
-use Rattle.std.proofs.Common.{cond, nat_lt, IsTrue, List, [], ◌∷◌, ◌++◌, length, map, get_or, drop}
-use Rattle.std.proofs.Common.{refl, sym, ◌∙◌, ap, ap₂, subst, arith}
-use Rattle.std.specs.List.{All, filter}
+use Rattle.std.proofs.Common.{◌≡◌, ℕ, zero, suc, ◌+◌, ◌-◌, ◌%◌, ◌<◌, ◌≤◌, Bool, true, false}
+use Rattle.std.proofs.Common.{cond, List, [], ◌∷◌, ◌++◌, length, map, get_or, drop}
+use Rattle.std.proofs.Common.{refl, sym, ◌∙◌, ap, ap₂, arith}
+use Rattle.std.specs.List.{filter}
 use Rattle.std.proofs.lemmas.Bool.{lt-ltb, le-ltb}
 use Rattle.std.proofs.lemmas.List.{append_assoc, append-nil, length-append, drop_more, drop_all}
-use Rattle.std.proofs.lemmas.List.{get_or_default}
-use Rattle.ff_theory.specs.Ring.{RingOps, Elements}
+use Rattle.ff_theory.specs.Ring.{Elements}
 use Rattle.ff_theory.specs.Lists.{listed}
 use Rattle.ff_theory.specs.Poly.{coeff}
-use Rattle.ff_theory.proofs.Coeffs.{coeff-map}
 use Rattle.ff_theory.proofs.Listed.{listed-length}
 use Rattle.ff_table.specs.Table.{Table}
 use Rattle.ff_table.specs.Shift.{value_at}
@@ -21,7 +19,8 @@ use Rattle.ff_ring.specs.Ring.{table_in, ring_in, element_in, elements_in}
 use Rattle.ff_root.specs.declared.state.State.{State}
 use Rattle.ff_root.specs.States.{value_of, state_in, states_in}
 
-listed-get : {A : Type 0} (n : ℕ) (g : ℕ → A) (i : ℕ) (d : A) → i < n → get_or (listed n g) i d ≡ g i
+listed-get : {A : Type 0} (n : ℕ) (g : ℕ → A) (i : ℕ) (d : A) → i < n
+    → get_or (listed n g) i d ≡ g i
 listed-get zero g i d l = absurd (omega (arith, l))
 listed-get (suc n) g zero d l = refl
 listed-get (suc n) g (suc i) d l = listed-get n (λ j. g (suc j)) i d (omega (arith, l))
@@ -66,7 +65,8 @@ module _ (F : Elements ℕ) (s : System) where
   abbrev pub children_rest : ℕ → SearchState F.ring (table_in F s) → ℕ
       → List (SearchState F.ring (table_in F s))
   children_rest t a i = map (child F.ring (table_in F s) t a)
-      (filter (λ c. F.same (value_at F.ring c (leading_poly F.ring (table_in F s) t a.moved)) F.zero)
+      (filter (λ c. F.same (value_at F.ring c (leading_poly F.ring (table_in F s) t a.moved))
+      F.zero)
       (drop i (listed F.size F.element_at)))
 
   module _ (t : ℕ) (a : SearchState F.ring (table_in F s)) where
@@ -110,7 +110,8 @@ module _ (F : Elements ℕ) (s : System) where
 
     pub children-none : (i : ℕ) → F.size ≤ i → children_rest t a i ≡ []
     children-none i l = ap (λ p. map (child F.ring S t a) (filter test p))
-        (drop_all i (listed F.size F.element_at) (omega (arith, l, listed-length F.size F.element_at)))
+        (drop_all i (listed F.size F.element_at)
+        (omega (arith, l, listed-length F.size F.element_at)))
 
   -- the test of one element, as the code has it
   pub leading-test : (t : ℕ) (a : State) (c : ℕ) (read list : List ℕ)
@@ -281,7 +282,8 @@ module _ (F : Elements ℕ) (s : System) where
 
   pub finished-yes : (states : List State) (i j : ℕ) (a : State) → i < length states
       → j ≡ i + 1 → a ≡ get_or states i a
-      → (ring_in F s).same (coeff (ring_in F s) (elements_in F s a.moved) 0) (ring_in F s).zero ≡ true
+      → (ring_in F s).same (coeff (ring_in F s) (elements_in F s a.moved) 0)
+      (ring_in F s).zero ≡ true
       → finished_rest states i ≡ (element_in F s a.sum ∷ []) ++ finished_rest states j
   finished-yes states i j a l f e y = next-finished states i j a l f e
       ∙ ap (λ b. map (λ (x : SearchState F.ring S). x.sum)

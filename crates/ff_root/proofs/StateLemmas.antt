@@ -34,7 +34,7 @@ use Rattle.ff_data.specs.Systems.{AreCoords, weight_at}
 use Rattle.ff_ring.specs.declared.level.Monomial.{Monomial}
 use Rattle.ff_ring.specs.Entries.{entry_at, AreEntries}
 use Rattle.ff_ring.specs.Affine.{term_poly}
-use Rattle.ff_ring.specs.Ring.{HasTable, AreCoordsList, table_in, ring_in, element_in, elements_in}
+use Rattle.ff_ring.specs.Ring.{AreCoordsList, table_in, ring_in, element_in, elements_in}
 use Rattle.ff_ring.specs.Ring.{monomial_in}
 use Rattle.ff_ring.proofs.RingElements.{element-at, elements-push}
 use Rattle.ff_root.specs.declared.state.State.{State}
@@ -74,7 +74,8 @@ module _ (F : Elements ℕ) (L : Lawful F) (s : System) where
       → at (polys_over F) (length s.weights) (monomial_in F s a) l
       ≡ (polys_over F).mul (term_poly F a.c a.power) (unit_at (polys_over F) a.class l)
   monomial-entry a l q = multiple-at K S c (z_multiple F.ring S z v) l q
-      ∙ ap (P.mul c) (multiple-at K S z v l q ∙ ap (P.mul z) (coords-at P e (unit_at P a.class) l q))
+      ∙ ap (P.mul c) (multiple-at K S z v l q
+      ∙ ap (P.mul z) (coords-at P e (unit_at P a.class) l q))
       ∙ ring3 P PL (λ c z w. c ⊗ (z ⊗ w)) (λ c z w. (z ⊗ c) ⊗ w) refl c z (unit_at P a.class l)
     where
       c : Poly F.ring

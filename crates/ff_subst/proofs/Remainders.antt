@@ -53,7 +53,7 @@ module _ (K : Elements ℕ) (L : Lawful K) where
       × (r ≡ (polynomials K.ring).zero)
   exact-division m a q r s hm pos e h =
       let some = nonzero_size F (poly_of K m) (poly-nonzero K L m hm pos) in
-      one_division K.ring L.laws L.tests K.inverse L.finite.field (poly_of K m) some.0 some.1 a q r
+      one_division (lawful_field L) (poly_of K m) some.0 some.1 a q r
       s D.zero h (record {
         sum = e ∙ ring2 D.ring D.laws (λ s m. s ⊗ m) (λ s m. s ⊗ m ⊕ nil)
             refl s (poly_of K m);

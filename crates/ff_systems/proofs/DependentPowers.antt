@@ -11,7 +11,7 @@ use Rattle.ff_theory.specs.Division.{size}
 use Rattle.ff_theory.specs.Planes.{planes, Plane, row_of}
 use Rattle.ff_theory.specs.Span.{Dependence}
 use Rattle.ff_theory.specs.Algebra.{algebra_of, value_of, degree, constant}
-use Rattle.ff_theory.proofs.Solver.{◌⊗◌, unit, ring1, ring3, mul_zero, zero_mul}
+use Rattle.ff_theory.proofs.Solver.{◌⊗◌, ring3, mul_zero}
 use Rattle.ff_theory.proofs.Sums.{sum-ext, sum-mul}
 use Rattle.ff_theory.proofs.Poly.{trim-coeff}
 use Rattle.ff_theory.proofs.Division.{const_mul_at}
@@ -19,6 +19,7 @@ use Rattle.ff_theory.proofs.PolyMap.{polynomial_domain}
 use Rattle.ff_theory.proofs.Dependence.{dependence}
 use Rattle.ff_theory.proofs.Element.{algebra_is_ring, value_map, element_clear, cancel_row}
 use Rattle.ff_theory.proofs.Element.{lowest_nonzero}
+use Rattle.ff_theory.proofs.Domains.{field_domain}
 use Rattle.ff_charts.specs.Integral.{HasDegrees, IsFiniteIntegral, IsInfinityIntegral}
 use Rattle.ff_charts.specs.Lattice.{HasShape, flat}
 use Rattle.ff_charts.proofs.Rows.{poly_size}
@@ -30,12 +31,6 @@ use Rattle.ff_conductor.proofs.Degrees.{nonzero_size, factor_size, low_equal, ro
 use Rattle.ff_local.specs.ChartOrder.{plane_sum}
 use Rattle.ff_local.proofs.PlaneSums.{sum_vector, sum_has_shape}
 use Rattle.ff_table.proofs.BasisSums.{map-sum}
-
-module _ (K : Field) where
-  no_divisors : (a b : K.carrier) → K.mul a b ≡ K.zero → ¬ (b ≡ K.zero) → a ≡ K.zero
-  no_divisors a b e n = ring1 K.ring K.laws (λ a. a) (λ a. a ⊗ unit) refl a
-      ∙ ap (K.mul a) (sym (K.is_field.mul_inverse b n)) ∙ sym (K.laws.mul_assoc a b (K.inverse b))
-      ∙ ap (λ t. K.mul t (K.inverse b)) e ∙ zero_mul K.ring K.laws (K.inverse b)
 
 -- a combination of the first powers that is 0, with a coefficient that is not
 pub record DependentPowers (k A : RingOps) (constant : k.carrier → A.carrier) (s : A.carrier)
@@ -128,7 +123,7 @@ module _ (K : Field) (f : Plane K) (n : ℕ) (has : size (polynomials K.ring) f 
 
   relation : Dependence K.ring (suc (n * l)) (n * l)
       (λ j. flat K.ring (size K.ring finite.h + infinite.bound) (N j))
-  relation = dependence K.ring K.laws K.tests K.is_field.one_not_zero (no_divisors K) (n * l)
+  relation = dependence (field_domain K) (n * l)
       (suc (n * l)) _ (omega arith)
 
   abbrev c : ℕ → K.carrier

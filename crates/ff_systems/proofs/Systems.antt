@@ -80,7 +80,7 @@ module _ (F : Elements ℕ) (L : Lawful F) (f : List (List ℕ)) (hf : IsPlane F
       go : (n : ℕ) → size F.ring (poly_of F q) ≡ n → HasPoleUpTo L f o p other j (at_z L f s q)
       go zero e = subst (HasPoleUpTo L f o p other j) (up.constants.on_zero
           ∙ sym (ap (poly_at K (plane_of F f) (elem_of L f s.z))
-          (no_size F.ring L.laws L.tests F.inverse L.finite.field (poly_of F q) e)
+          (no_size (lawful_field L) (poly_of F q) e)
           ∙ (at_z-map K A (algebra_laws F L f hf two) (constant K (plane_of F f))
           (HasPoleUpTo L f o p other) up (length s.weights)
           (positive F L f hf two o p other at s h count) (elem_of L f s.z)

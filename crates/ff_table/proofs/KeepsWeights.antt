@@ -94,7 +94,7 @@ module _ (K : Field) (s : Table K.ring) (table : IsTable K.ring s) (s' : Table K
   unfolding M
   term-below a t l q small zero e i r d b = ap (part k s' i d)
       (ap (λ x. T'.mul x (f (basis k s l)))
-      (ap f (ap (embed K s table) (no_size k K.laws K.tests K.inverse K.is_field
+      (ap f (ap (embed K s table) (no_size K
       (at P.ring s.rank a l) e) ∙ (embed_map K s table).on_zero) ∙ map.on_zero)
       ∙ zero_mul T' (table_laws K s' table') (f (basis k s l))) ∙ part-zero K s' i d r
   term-below a t l q small (suc x) e i r d b =

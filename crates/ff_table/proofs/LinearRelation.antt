@@ -14,6 +14,7 @@ use Rattle.ff_theory.specs.Span.{Dependence}
 use Rattle.ff_theory.proofs.Dependence.{dependence}
 use Rattle.ff_theory.specs.Lists.{listed}
 use Rattle.ff_theory.proofs.Listed.{listed-at, listed-past}
+use Rattle.ff_theory.proofs.Domains.{field_domain}
 use Rattle.ff_table.proofs.RootOrders.{last}
 use Rattle.ff_table.specs.Coords.{Coords, at}
 use Rattle.ff_table.specs.Table.{Table, IsTable, table_ring}
@@ -22,14 +23,6 @@ use Rattle.ff_table.specs.Leading.{part}
 use Rattle.ff_table.specs.Level.{at_level, scaled}
 use Rattle.ff_table.proofs.Levels.{part-level}
 use Rattle.ff_table.proofs.Scalars.{part-zero, part-sum, part-ext}
-
--- a factor of zero in a field, beside one that is not zero
-pub nonzero_factor : (K : Field) (a b : K.carrier) → K.mul a b ≡ K.zero → ¬ (b ≡ K.zero)
-    → a ≡ K.zero
-nonzero_factor K a b e n = ring1 K.ring K.laws (λ a. a) (λ a. a ⊗ unit) refl a
-    ∙ ap (K.mul a) (sym (K.is_field.mul_inverse b n))
-    ∙ sym (K.laws.mul_assoc a b _) ∙ ap (λ t. K.mul t (K.inverse b)) e
-    ∙ zero_mul K.ring K.laws _
 
 -- a k-relation of r elements, not all of whose coefficients are zero
 pub record LinearRelation (K : Field) (s : Table K.ring) (r : ℕ)
@@ -65,7 +58,7 @@ module _ (K : Field) (s : Table K.ring) (table : IsTable K.ring s) where
   }
     where
       d : Dependence k (suc n) n (λ i t. at_level k s t (f i))
-      d = dependence k K.laws K.tests K.is_field.one_not_zero (nonzero_factor K) n (suc n)
+      d = dependence (field_domain K) n (suc n)
           (λ i t. at_level k s t (f i)) (omega arith)
 
       each : (l x : ℕ) → l < s.rank → (s.rank * x + s.weight l < n) ⊎ (n ≤ s.rank * x + s.weight l)
@@ -113,7 +106,7 @@ module _ (K : Field) (s : Table K.ring) (table : IsTable K.ring s) where
       c i = coeff k (listed (suc n) r.coefficients) i
 
       m : (m : ℕ) × ((i : ℕ) → m < i → c i ≡ K.zero) × ¬ (c m ≡ K.zero)
-      m = last k K.laws K.tests n c (λ i l. listed-past k (suc n) r.coefficients i l) r.place
+      m = last (field_domain K) n c (λ i l. listed-past k (suc n) r.coefficients i l) r.place
           (λ z. r.nonzero (sym (listed-at k (suc n) r.coefficients r.place r.below) ∙ z))
 
       inv : K.carrier

@@ -11,6 +11,7 @@ use Rattle.ff_theory.specs.Ring.{RingOps, Elements, power}
 use Rattle.ff_theory.specs.Lawful.{Lawful, lawful_field}
 use Rattle.ff_theory.specs.Poly.{coeff, polynomials}
 use Rattle.ff_theory.proofs.Solver.{zero_mul}
+use Rattle.ff_theory.proofs.Domains.{field_domain}
 use Rattle.ff_table.specs.Coords.{Coords}
 use Rattle.ff_table.specs.Table.{Table, IsTable, table_ring}
 use Rattle.ff_table.specs.Level.{IsLevel, class_of, power_of, at_level, monomial_at}
@@ -22,7 +23,6 @@ use Rattle.ff_table.proofs.TableRing.{table_laws}
 use Rattle.ff_table.proofs.Scalars.{part-zero}
 use Rattle.ff_table.proofs.Levels.{class-below}
 use Rattle.ff_table.proofs.LeadingDegrees.{leading-at}
-use Rattle.ff_table.proofs.LinearRelation.{nonzero_factor}
 use Rattle.ff_table.proofs.RootOrders.{order_exists, root-order, orders_sum}
 use Rattle.ff_table.proofs.Tops.{HasLeading, has_leading}
 use Rattle.ff_table.proofs.Zeros.{zeros-vanish, zeros-distinct}
@@ -80,14 +80,14 @@ module _ {E : Type 0} {F : Elements E} (L : Lawful F) (s : Table F.ring) (table 
       past = allowed t (omega arith) level
 
       exists : (c : F.carrier) → (o : ℕ) × HasOrder k G c o
-      exists c = order_exists k L.laws L.tests c G r past leads.index leads.nonzero
+      exists c = order_exists (field_domain (lawful_field L)) c G r past leads.index leads.nonzero
 
       order : F.carrier → ℕ
       order c = (exists c).0
 
       orders-below : sum_by order (zeros_of F.field G) ≤ r
       unfolding order
-      orders-below = orders_sum k L.laws L.tests (nonzero_factor (lawful_field L))
+      orders-below = orders_sum (field_domain (lawful_field L))
           (zeros_of F.field G) G r order past (zeros-distinct L G)
           (λ i d l. (exists (get_or (zeros_of F.field G) i d)).1)
 
@@ -102,7 +102,8 @@ module _ {E : Type 0} {F : Elements E} (L : Lawful F) (s : Table F.ring) (table 
 
       positive : All (λ c. 0 < order c) (zeros_of F.field G)
       unfolding order
-      positive i d l = root-order k L.laws L.tests (get_or (zeros_of F.field G) i d) G _
+      positive i d l = root-order (field_domain (lawful_field L))
+          (get_or (zeros_of F.field G) i d) G _
           (zeros-vanish L G i d l) (exists (get_or (zeros_of F.field G) i d)).1
 
       allowed-map : (cs : List F.carrier) → Allowed t (map (child k s t a) cs) (sum_by order cs)

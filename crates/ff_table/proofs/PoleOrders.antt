@@ -147,7 +147,7 @@ module _ (K : Field) (A : RingOps) (AL : IsCommRing A) (constant : K.carrier →
 
       term-zero : (p : Poly K.ring) (l : ℕ) → size k p ≡ 0 → A.mul (at_z p) (b l) ≡ A.zero
       term-zero p l h = ap (λ p. A.mul (at_z p) (b l))
-          (no_size k K.laws K.tests K.inverse K.is_field p h)
+          (no_size K p h)
           ∙ ap (λ x. A.mul x (b l)) at_z-map.on_zero ∙ zero_mul A AL (b l)
 
       -- the weight is the order

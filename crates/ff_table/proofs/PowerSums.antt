@@ -132,7 +132,7 @@ module _ (K : Field) (s : Table K.ring) (table : IsTable K.ring s) where
           go : (j : ℕ) → j < suc n → (j < n) ⊎ (n ≤ j) → A j ≡ P.zero
           go j l (inl o) = z j o
           go j l (inr o) = let f : j ≡ n = omega arith in ap A f
-              ∙ no_size k K.laws K.tests K.inverse K.is_field (A n) e
+              ∙ no_size K (A n) e
       more-terms n q A (suc d) e (inr z) = inl (record {
         index = n;
         degree = d;
@@ -151,7 +151,7 @@ module _ (K : Field) (s : Table K.ring) (table : IsTable K.ring s) where
         heavy = subst (λ a. Weighs k s a (s.rank * h.degree + h.index * W))
             (sym (TL.add_zero (power_sum k s w n A))
             ∙ ap (T.add (power_sum k s w n A)) (sym (ap (λ p. z_multiple k s p (power T w n))
-            (no_size k K.laws K.tests K.inverse K.is_field (A n) e) ∙ multiple-zero (power T w n))))
+            (no_size K (A n) e) ∙ multiple-zero (power T w n))))
             h.heavy;
       })
       more-terms n q A (suc d) e (inl h) =

@@ -22,6 +22,7 @@ use Rattle.ff_theory.proofs.Division.{top_nonzero}
 use Rattle.ff_theory.proofs.Gcd.{no_size}
 use Rattle.ff_theory.proofs.PolyMap.{polynomial_domain, same_false, not_same}
 use Rattle.ff_theory.proofs.ElementEuclid.{empty_plane, zero_plane_size}
+use Rattle.ff_theory.proofs.Domains.{no_divisors}
 use Rattle.ff_factors.specs.Factors.{IsPrimitivePart}
 use Rattle.ff_factors.proofs.PrimitivePart.{primitive_part, primitive_size, scalar_nonzero}
 use Rattle.ff_factors.proofs.Factored.{divisor_exact}
@@ -32,7 +33,7 @@ use Rattle.ff_table.specs.Coords.{Coords}
 use Rattle.ff_table.specs.Table.{Table, IsTable, table_ring, Weighs}
 use Rattle.ff_table.specs.Level.{z_multiple, scaled}
 use Rattle.ff_table.specs.Powers.{IsPrimeTo, power_sum, IsPowerSum, IsRelation}
-use Rattle.ff_table.proofs.TableRing.{table_laws, table_factor, zero_weight}
+use Rattle.ff_table.proofs.TableRing.{table_laws, zero_weight, table_domain}
 use Rattle.ff_table.proofs.Scalars.{multiple-mul, zero-coeff}
 use Rattle.ff_table.proofs.Multiples.{z_power, of_coefficients, coefficient, spread}
 use Rattle.ff_table.proofs.Embedding.{embed, embed_map, embed-weight, multiple-embed}
@@ -226,7 +227,7 @@ module _ (K : Field) (s : Table K.ring) (table : IsTable K.ring s)
 
   F-zero : value F ≡ T.zero
   unfolding F
-  F-zero = table_factor K s table (value part.1) (embed K s table part.0)
+  F-zero = no_divisors (table_domain K s table) (value part.1) (embed K s table part.0)
       (TL.mul_comm (value part.1) (embed K s table part.0)
       ∙ ap (λ t. T.mul t (value part.1)) (sym (at_w-row K s table w W weighs prime part.0))
       ∙ sym (map.on_mul (row_of k part.0) part.1) ∙ ap value (sym part.2.product) ∙ exact.zero)
@@ -237,7 +238,7 @@ module _ (K : Field) (s : Table K.ring) (table : IsTable K.ring s)
       embed-nonzero p n z = go (size k p) refl
         where
           go : (m : ℕ) → size k p ≡ m → ⊥
-          go zero h = n (no_size k K.laws K.tests K.inverse K.is_field p h)
+          go zero h = n (no_size K p h)
           go (suc d) h = absurd (zero_weight K s table (e * d)
               (subst (λ a. Weighs k s a (e * d)) z (embed-weight K s table p d h)))
 
@@ -312,13 +313,13 @@ module _ (K : Field) (s : Table K.ring) (table : IsTable K.ring s)
               one : (x : ℕ) → size k (coeff P.ring u.coeffs m) ≡ x → (y : ℕ) → size k row ≡ y
                   → size k row ≡ 1
               one zero hx y hy = absurd (top_nonzero P.ring P.laws P.tests u m h
-                  (no_size k K.laws K.tests K.inverse K.is_field (coeff P.ring u.coeffs m) hx))
+                  (no_size K (coeff P.ring u.coeffs m) hx))
               one (suc x) hx zero hy = absurd (top_nonzero P.ring P.laws P.tests F e F-size
-                  (no_size k K.laws K.tests K.inverse K.is_field row hy))
+                  (no_size K row hy))
               one (suc x) hx (suc y) hy = omega (
                 arith,
                 hy,
-                size-mul k K.laws K.tests K.inverse K.is_field (coeff P.ring u.coeffs m) row x y
+                size-mul K (coeff P.ring u.coeffs m) row x y
                     hx hy,
                 ap (size k) both,
                 constant-small m,

@@ -19,7 +19,7 @@ use Rattle.ff_table.proofs.Shift.{value-first}
 use Rattle.ff_table.proofs.RootOrders.{roots_bound}
 use Rattle.ff_table.proofs.Scalars.{part-zero, part-ext}
 use Rattle.ff_table.proofs.Levels.{is-level}
-use Rattle.ff_table.proofs.TableRing.{table_laws, table_tests, table_factor}
+use Rattle.ff_table.proofs.TableRing.{table_laws, table_tests, table_domain}
 use Rattle.ff_table.proofs.Pairwise.{pairs-map, pairs-filter, contains-map, contains-filter}
 use Rattle.ff_table.proofs.States.{IsStateOf}
 use Rattle.ff_table.proofs.Search.{Begins, AreStates, next-states, proper}
@@ -180,6 +180,6 @@ module _ {E : Type 0} {F : Elements E} (L : Lawful F) (s : Table F.ring) (table 
   pub root-count : IsMonicList (table_ring F.ring s) p degree
       → (roots : List (Coords (polynomials F.ring) s.rank)) → AreRootsOf F.ring s p n roots
       → length roots ≤ degree
-  root-count h roots r = roots_bound T TL TT (table_factor (lawful_field L) s table) roots p degree
+  root-count h roots r = roots_bound (table_domain (lawful_field L) s table) roots p degree
       h.past degree (λ z. proper L s table (sym h.leading ∙ z)) r.distinct
       (λ i d l. (r.each i d l).vanishes)

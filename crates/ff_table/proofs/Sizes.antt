@@ -43,6 +43,6 @@ module _ (K : Field) where
   -- a power of the variable
   pub power-size : (n : ℕ) → size K.ring (power (polynomials K.ring) (variable K.ring) n) ≡ suc n
   power-size zero = constant-size K.one K.is_field.one_not_zero
-  power-size (suc n) = size-mul K.ring K.laws K.tests K.inverse K.is_field (variable K.ring)
+  power-size (suc n) = size-mul K (variable K.ring)
       (power (polynomials K.ring) (variable K.ring) n) 1 n variable-size (power-size n)
       ∙ (let e : suc (1 + n) ≡ suc (suc n) = omega arith in e)

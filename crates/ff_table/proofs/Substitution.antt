@@ -50,7 +50,7 @@ module _ (K : Field) (zeta : Poly K.ring) (linear : size K.ring zeta ≡ 2) wher
       (λ i l. past i l)
     where
       product : size k (P.mul zeta q) ≡ suc (suc d)
-      product = size-mul k K.laws K.tests K.inverse K.is_field zeta q 1 d linear h
+      product = size-mul K zeta q 1 d linear h
           ∙ (let e : suc (1 + d) ≡ suc (suc d) = omega arith in e)
 
       at : (i : ℕ) → coeff k (P.add (constant c) (P.mul zeta q)).coeffs (suc i)

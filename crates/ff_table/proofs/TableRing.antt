@@ -130,14 +130,3 @@ module _ (K : Field) (s : Table K.ring) (table : IsTable K.ring s) where
         (weight-mul a b (differ_weight a ha).0 (differ_weight b hb).0 (differ_weight a ha).1
         (differ_weight b hb).1);
   }
-
-  -- a factor of zero beside one that is not zero
-  pub table_factor : (a b : Coords (polynomials K.ring) s.rank)
-      → (table_ring K.ring s).mul a b ≡ (table_ring K.ring s).zero
-      → ¬ (b ≡ (table_ring K.ring s).zero) → a ≡ (table_ring K.ring s).zero
-  table_factor a b e nb = go (T.same a T.zero) refl
-    where
-      go : (o : Bool) → T.same a T.zero ≡ o → a ≡ T.zero
-      go true o = table_tests.same_true a T.zero o
-      go false o = absurd (not_same T table_tests (T.mul a b) T.zero
-          (table_domain.no_divisors a b o (same_false T table_tests b T.zero nb)) e)

@@ -1,16 +1,13 @@
 -- Numbers that stand alone: one to nine digits and their value.
-use Rattle.std.proofs.Common.{◌≡◌, ℕ, zero, suc, ◌+◌, ◌*◌, ◌^◌, ◌<◌, ◌≤◌, ◌⊎◌, inl, inr, List, []}
-use Rattle.std.proofs.Common.{◌∷◌, length, map, take, get_or, Option, Some, None, refl, sym, ◌∙◌, ap}
-use Rattle.std.proofs.Common.{subst, arith, lit≤, lit<, add-one}
+use Rattle.std.proofs.Common.{◌≡◌, ℕ, zero, suc, ◌+◌, ◌*◌, ◌^◌, ◌<◌, ◌≤◌, List, []}
+use Rattle.std.proofs.Common.{◌∷◌, length, take, get_or, Option, Some, None, refl, sym, ◌∙◌, ap}
+use Rattle.std.proofs.Common.{subst, arith}
 use Rattle.std.specs.List.{All, fold}
-use Rattle.std.proofs.Math.Nat.{pow-succ', pow-le-pow_right}
-use Rattle.std.proofs.lemmas.Bool.{cases_lt}
 use Rattle.std.proofs.lemmas.List.{take_all}
-use Rattle.std.proofs.lemmas.List.Sums.{fold_more}
 use Rattle.ff_text.specs.declared.symbol.Symbol.{Symbol}
-use Rattle.ff_text.specs.declared.symbol.Symbol.TheVariants as symbol
 use Rattle.ff_text.specs.Symbols.{symbol_of, symbols, digit_of}
 use Rattle.ff_text.specs.Grammar.{Digits, Number}
+use Rattle.ff_text.specs.declared.symbol.Symbol.TheVariants as symbol
 
 -- there is a digit
 abbrev pub IsDigit : Option ℕ → Type 0

@@ -57,7 +57,7 @@ module _ (K : Field) (f : Plane K) (n : ℕ) (has : size (polynomials K.ring) f 
       (reduced_class K n t) ≡ value (poly (polynomials K.ring) t.nums)
   unfolding plane_value reduced_class poly
   reduced_clear t = ap (A.mul (row_value t.den))
-      (sym (class_back F.ring F.laws F.tests F.inverse F.is_field (embed K f) n (embed_size K f
+      (sym (class_back F (embed K f) n (embed_size K f
       ∙ has) (reduced_class K n t)))
       ∙ sym ((residue_map F (embed K f) n (embed_size K f ∙ has)).on_mul
       (embed K (row_of K.ring t.den)) (reduced_poly K n t))
@@ -235,10 +235,10 @@ module _ (K : Field) (f : Plane K) (n : ℕ) (has : size (polynomials K.ring) f 
       go : (k : ℕ) → size F.ring w.0 ≡ k → ⊥
       go zero h = nN (embed_one K N (planes K).zero (is
           ∙ ap (λ t. (polynomials F.ring).mul t (embed K f))
-          (no_size F.ring F.laws F.tests F.inverse F.is_field w.0 h)
+          (no_size F w.0 h)
           ∙ zero_mul (polynomials F.ring) FL (embed K f) ∙ sym (embed_map K).on_zero))
       go (suc k) h = let x : size F.ring (embed K N) ≡ suc (k + n) = ap (size F.ring) is
-          ∙ size-mul F.ring F.laws F.tests F.inverse F.is_field w.0 (embed K f) k n h
+          ∙ size-mul F w.0 (embed K f) k n h
           (embed_size K f ∙ has) in
           let y : size F.ring (embed K N) ≡ size D.ring N = embed_size K N in absurd
           (omega (arith, x, y, small))

@@ -8,7 +8,10 @@ use Rattle.ff_theory.specs.Sum.{sum_below}
 use Rattle.ff_theory.proofs.Solver.{◌⊕◌, ◌⊗◌, neg, nil, ring3, ring6, mul_zero}
 use Rattle.ff_theory.proofs.Sums.{sum-ext, sum-zero, sum-add, sum-mul, sum-swap}
 use Rattle.ff_theory.specs.Span.{combination, InSpan, IsIndependent, Dependence}
+use Rattle.ff_theory.specs.Lawful.{Domain}
 use Rattle.ff_theory.proofs.Insert.{insert_at, skip, skip-below, insert-skip, sum-insert_mul}
+use Rattle.ff_theory.proofs.PolyMap.{not_same}
+use Rattle.ff_theory.proofs.Domains.{no_divisors}
 
 -- an index below n where f is not zero
 pub record Found (R : RingOps) (n : ℕ) (f : ℕ → R.carrier) : Type 0 where
@@ -43,12 +46,11 @@ module _ (R : RingOps) (laws : IsCommRing R) (tests : IsTested R) where
           last i l (inl q) = h i q
           last i l (inr q) = let k : i ≡ n = omega arith in ap f k ∙ tests.same_true (f n) R.zero e
 
-module _ (R : RingOps) (laws : IsCommRing R) (tests : IsTested R)
-    (one_not_zero : ¬ (R.one ≡ R.zero))
-    (domain : (a b : R.carrier) → R.mul a b ≡ R.zero → ¬ (b ≡ R.zero) → a ≡ R.zero) where
+module _ (D : Domain) where
   infixl 60 ◌+◌
   infixl 70 ◌*◌
-  open R use {add as ◌+◌, mul as ◌*◌, neg as minus, carrier as C}
+  open D use {ring as R, laws, tests, proper}
+  open D.ring use {add as ◌+◌, mul as ◌*◌, neg as minus, carrier as C}
 
   -- the vectors but number p, made zero in column m by vector p
   abbrev pub cleared : (p m : ℕ) → (ℕ → ℕ → C) → ℕ → ℕ → C
@@ -77,7 +79,7 @@ module _ (R : RingOps) (laws : IsCommRing R) (tests : IsTested R)
     coefficients = c;
     index = skip p d.index;
     below = skip-below p d.index n d.below;
-    nonzero = λ e. d.nonzero (domain (d.coefficients d.index) (w p m)
+    nonzero = λ e. d.nonzero (no_divisors D (d.coefficients d.index) (w p m)
         (sym (insert-skip p d.index x (λ i. d.coefficients i * w p m)) ∙ e) nz);
     sum = λ j q. same j ∙ go j q (cases_lt j m);
   }
@@ -120,8 +122,7 @@ module _ (R : RingOps) (laws : IsCommRing R) (tests : IsTested R)
     coefficients = λ i. R.one;
     index = 0;
     below = l;
-    nonzero =
-        one_not_zero;
+    nonzero = not_same R tests R.one R.zero proper;
     sum = λ j q. absurd (omega arith);
   }
   dependence (suc m) zero w l = absurd (omega arith)

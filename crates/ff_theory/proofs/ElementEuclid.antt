@@ -39,8 +39,8 @@ module _ (K : Field) where
       ≡ suc (m + n)
   plane_size-mul p q m n hp hq = let F : Field = rational K in
       sym (embed_size K (P.mul p q)) ∙ ap (size (rational K).ring) ((embed_map K).on_mul p q)
-      ∙ size-mul (rational K).ring (rational K).laws (rational K).tests (rational K).inverse
-      (rational K).is_field (embed K p) (embed K q) m n (embed_size K p ∙ hp) (embed_size K q ∙ hq)
+      ∙ size-mul (rational K) (embed K p) (embed K q) m n (embed_size K p ∙ hp)
+      (embed_size K q ∙ hq)
 
   pub empty_plane : (p : Plane K) → size (polynomials K.ring) p ≡ 0 → p ≡ (planes K).zero
   unfolding poly

@@ -15,12 +15,12 @@ module _ (K : Field) where
       ≡ (polynomials K.ring).mul q b → quotient K a b ≡ q
   unfolding quotient quotient_of poly
   exact_quotient a b q n has e = ap (λ m. quotient_list K m b a.coeffs) (ap pred has)
-      ∙ sym (quotient_matches K.ring K.laws K.tests K.inverse K.is_field b n has a.coeffs)
-      ∙ (one_division K.ring K.laws K.tests K.inverse K.is_field b n has a
-      (quotient_of K.ring K.laws K.tests K.inverse K.is_field b n has a)
-      (remainder_of K.ring K.laws K.tests K.inverse K.is_field b n has a) q
+      ∙ sym (quotient_matches K b n has a.coeffs)
+      ∙ (one_division K b n has a
+      (quotient_of K b n has a)
+      (remainder_of K b n has a) q
       (polynomials K.ring).zero
-      (divides K.ring K.laws K.tests K.inverse K.is_field b n has a)
+      (divides K b n has a)
       (record {
         sum = e ∙ ring2 (polynomials K.ring) (polynomial_laws K.ring K.laws K.tests) (λ q b. q ⊗ b)
             (λ q b. q ⊗ b ⊕ nil) refl q b;

@@ -111,11 +111,11 @@ module _ (K : Field) (f : Plane K) (n : ℕ) (has : size (polynomials K.ring) f 
           → size F.ring ((polynomials F.ring).mul (fconst K (fraction_of K c.den)) u)
           ≡ size F.ring u
       go zero e = ap (λ t. size F.ring ((polynomials F.ring).mul (fconst K (fraction_of K c.den))
-          t)) (no_size F.ring F.laws F.tests F.inverse F.is_field u e)
+          t)) (no_size F u e)
           ∙ ap (size F.ring) (mul_zero (polynomials F.ring) FL (fconst K (fraction_of K c.den)))
           ∙ zero_size F ∙ sym e
       go (suc k) e = let x : size F.ring ((polynomials F.ring).mul (fconst K (fraction_of K c.den))
-          u) ≡ suc (0 + k) = size-mul F.ring F.laws F.tests F.inverse F.is_field
+          u) ≡ suc (0 + k) = size-mul F
           (fconst K (fraction_of K c.den)) u 0 k const_one e in omega (arith, x, e)
 
   pub irreducible_by_planes : NoFactors → IsIrreducible F (embed K f) n (embed_size K f ∙ has)

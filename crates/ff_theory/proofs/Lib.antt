@@ -33,6 +33,7 @@ pub mod FrobeniusPoly
 pub mod Parts
 -- Polynomials over a field
 pub mod PolyMap
+pub mod Domains
 pub mod Gcd
 pub mod Euclid
 pub mod LowestTerms

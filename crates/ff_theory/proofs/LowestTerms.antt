@@ -103,15 +103,15 @@ module _ (K : Field) where
     of_each = λ i l. absurd (omega arith);
     greatest = λ a w hc hs. hc;
   }
-  list_gcd c h (suc n) = gcd_step c h n (list_gcd c h n) (bezout K.ring K.laws K.tests K.inverse
-      K.is_field (size K.ring (h n)) (list_gcd c h n).g (h n) (omega arith))
+  list_gcd c h (suc n) = gcd_step c h n (list_gcd c h n)
+      (bezout K (size K.ring (h n)) (list_gcd c h n).g (h n) (omega arith))
 
   -- it is the one of specs/Euclid
   pub common_matches : (c : Poly K.ring) (h : ℕ → Poly K.ring) (n : ℕ) → (list_gcd c h n).g
       ≡ common_divisor K c h n
   unfolding list_gcd gcd_step
   common_matches c h zero = refl
-  common_matches c h (suc n) = gcd_matches K.ring K.laws K.tests K.inverse K.is_field
+  common_matches c h (suc n) = gcd_matches K
       (size K.ring (h n)) (list_gcd c h n).g (h n) (omega arith)
       ∙ ap (λ t. gcd_within K (size K.ring (h n)) t (h n)) (common_matches c h n)
 
@@ -147,10 +147,10 @@ module _ (K : Field) where
     where
       go : (k : ℕ) → size K.ring q ≡ k → (j : ℕ) × ((size K.ring q ≡ suc j) × (n ≡ j + m))
       go zero h = let z : size K.ring b
-          ≡ 0 = ap (size K.ring) (e ∙ ap (λ t. R.mul t a) (no_size K.ring K.laws K.tests K.inverse
-          K.is_field q h) ∙ zero_mul R PL a) ∙ zero_size K in absurd (omega (arith, z, hb))
+          ≡ 0 = ap (size K.ring) (e ∙ ap (λ t. R.mul t a) (no_size K q h) ∙ zero_mul R PL a)
+          ∙ zero_size K in absurd (omega (arith, z, hb))
       go (suc j) h = let z : size K.ring b ≡ suc (j + m) = ap (size K.ring) e
-          ∙ size-mul K.ring K.laws K.tests K.inverse K.is_field q a j m h ha in
+          ∙ size-mul K q a j m h ha in
           (j, (h, omega (arith, z, hb)))
 
   -- the factor of a polynomial that is not zero is not zero
@@ -325,8 +325,8 @@ module _ (K : Field) where
           ι_size = const_size (K.inverse a) (inverse_nonzero a na)
 
           den_size : size K.ring (R.mul ι s) ≡ suc m
-          den_size = let x : size K.ring (R.mul ι s) ≡ suc (0 + m) = size-mul K.ring K.laws K.tests
-              K.inverse K.is_field ι s 0 m ι_size z.1 in x
+          den_size = let x : size K.ring (R.mul ι s) ≡ suc (0 + m) = size-mul K ι s 0 m ι_size z.1
+              in x
               ∙ (let y : suc (0 + m) ≡ suc m = omega arith in y)
 
           lead_one : leading (R.mul ι s) ≡ K.one

@@ -1,17 +1,16 @@
 -- Functionals on a fibre of an order give points by data, and each point by data comes from one.
-use Rattle.std.proofs.Common.{◌≡◌, ℕ, pred, ◌*◌ as times_ℕ, ◌<◌, refl, sym, ◌∙◌, ap, subst}
+use Rattle.std.proofs.Common.{◌≡◌, ℕ, pred, ◌*◌ as times_ℕ, ◌<◌, sym, ◌∙◌}
 use Rattle.ff_theory.specs.Ring.{RingOps, IsCommRing}
 use Rattle.ff_theory.specs.Lawful.{Field}
 use Rattle.ff_theory.specs.Poly.{Poly}
 use Rattle.ff_theory.specs.Division.{size}
-use Rattle.ff_theory.specs.Planes.{Plane}
-use Rattle.ff_theory.specs.Span.{EndsAt, InSpan, IsEchelon, product}
-use Rattle.ff_charts.specs.Chart.{Chart, at_u, at_theta, IsChart}
+use Rattle.ff_theory.specs.Span.{EndsAt, InSpan, IsEchelon}
+use Rattle.ff_charts.specs.Chart.{Chart, at_theta, IsChart}
 use Rattle.ff_charts.specs.Lattice.{IsClosed, flat}
-use Rattle.ff_local.specs.Point.{OrderIn, IsSpanned, combined}
+use Rattle.ff_local.specs.Point.{OrderIn}
 use Rattle.ff_local.specs.Functional.{HasFunctionalValue, IsFunctional}
-use Rattle.ff_local.specs.ChartOrder.{ChartOrder, ChartPoint, InChartOrder, root_at}
-use Rattle.ff_local.specs.ChartFibre.{ChartFibre, IsCongruentTo, IsRootMultiple}
+use Rattle.ff_local.specs.ChartOrder.{ChartOrder, ChartPoint, root_at}
+use Rattle.ff_local.specs.ChartFibre.{ChartFibre}
 use Rattle.ff_local.specs.ChartValue.{IsRoot, HasValueBy}
 use Rattle.ff_local.proofs.ChartData.{order_of, point_of}
 use Rattle.ff_local.proofs.ChartOrder.{order_in}
@@ -61,7 +60,8 @@ module _ (K : Field) (A : RingOps) (AL : IsCommRing A) (c : Chart K.ring A) (l :
     p = functional_point K A AL c l o a modulus (fibre K A AL c l o a modulus F) chi f
 
     -- a functional whose values of theta and of the basis are the data
-    pub functional_data : HasFunctionalValue (order_in K A AL c l (order_of K A AL c l m hm i r basis
+    pub functional_data : HasFunctionalValue
+        (order_in K A AL c l (order_of K A AL c l m hm i r basis
         rows pivot echelon ends closed) a modulus) (fibre K A AL c l (order_of K A AL c l m hm i r
         basis rows pivot echelon ends closed) a modulus F) chi c.theta b
         → ((j : ℕ) → j < r → HasFunctionalValue (order_in K A AL c l (order_of K A AL c l m hm i r
@@ -104,7 +104,8 @@ module _ (K : Field) (A : RingOps) (AL : IsCommRing A) (c : Chart K.ring A) (l :
         (fibre K A AL c l o a modulus F)
 
     -- whose values are those by the data
-    pub point_chi_value : (w : A.carrier) (s t : K.carrier) → HasFunctionalValue (order_in K A AL c l
+    pub point_chi_value : (w : A.carrier) (s t : K.carrier)
+        → HasFunctionalValue (order_in K A AL c l
         (order_of K A AL c l m hm i r basis rows pivot echelon ends closed) a modulus) (fibre K A AL
         c l (order_of K A AL c l m hm i r basis rows pivot echelon ends closed) a modulus F)
         point_chi w s → HasValueBy K c a b m i r basis values w t → s ≡ t

@@ -1,5 +1,5 @@
 -- Multiples of planes of a space by their vectors, and combinations of planes up to such multiples.
-use Rattle.std.proofs.Common.{◌≡◌, ℕ, ◌<◌, ◌↔◌, refl, sym, ◌∙◌, ap, ap₂, subst}
+use Rattle.std.proofs.Common.{◌≡◌, ℕ, ◌<◌, ◌↔◌, sym, ◌∙◌, ap}
 use Rattle.ff_theory.specs.Lawful.{Field}
 use Rattle.ff_theory.specs.Poly.{Poly}
 use Rattle.ff_theory.specs.Planes.{planes, Plane, row_of}
@@ -54,7 +54,8 @@ module _ (K : Field) (n l m r : ℕ) (b : ℕ → ℕ → K.carrier) (P : ℕ �
         → IsTimes K.ring n l g (λ M. InSpan K.ring r b (flat K.ring l M)) N
         → InSpan K.ring q w (flat K.ring m N)
     multiple_span N h = span-inside K.ring K.laws r
-        (λ i. flat K.ring m ((planes K).mul (row_of K.ring g) (P i))) q w (flat K.ring m N) same.back
+        (λ i. flat K.ring m ((planes K).mul (row_of K.ring g) (P i))) q w
+        (flat K.ring m N) same.back
         (record {
           coefficients = h.is_in.coefficients;
           sum = λ j. ap (λ M. flat K.ring m M j) (h.product

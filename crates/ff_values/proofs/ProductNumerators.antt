@@ -1,14 +1,13 @@
 -- The product of two numerators of an order is d times a plane, whose residue is a numerator.
-use Rattle.std.proofs.Common.{◌≡◌, ℕ, pred, ◌≤◌, false, refl, sym, ◌∙◌, ap, ap₂, subst}
+use Rattle.std.proofs.Common.{◌≡◌, ◌≤◌, false, refl, sym, ◌∙◌, ap, ap₂, subst}
 use Rattle.ff_theory.specs.Ring.{RingOps, IsCommRing}
 use Rattle.ff_theory.specs.Lawful.{Domain, Field}
-use Rattle.ff_theory.specs.Map.{IsMap}
-use Rattle.ff_theory.specs.Poly.{Poly, polynomials}
+use Rattle.ff_theory.specs.Poly.{polynomials}
 use Rattle.ff_theory.specs.Division.{size}
 use Rattle.ff_theory.specs.Planes.{planes, Plane, row_of}
-use Rattle.ff_theory.proofs.Solver.{◌⊕◌, ◌⊗◌, neg, unit, ring2, ring3, ring4}
+use Rattle.ff_theory.proofs.Solver.{◌⊕◌, ◌⊗◌, neg, ring2, ring3, ring4}
 use Rattle.ff_theory.proofs.PolyMap.{polynomial_domain}
-use Rattle.ff_charts.specs.Chart.{Chart, at_u, at_theta, InPowers, IsChart}
+use Rattle.ff_charts.specs.Chart.{Chart, at_u, at_theta, IsChart}
 use Rattle.ff_charts.specs.Lattice.{IsResidue}
 use Rattle.ff_charts.proofs.Chart.{at_u_map, row_times, cancel_u, powers_mul, powers_u}
 use Rattle.ff_charts.proofs.Lattice.{lat_clears}
@@ -57,7 +56,8 @@ module _ (K : Field) (A : RingOps) (AL : IsCommRing A) (c : Chart K.ring A) (l :
     twice : at_theta c T ≡ d * (d * w)
     twice = product ∙ sym (ap₂ A.mul (times_over K A AL c l o.modulus modulus_nonzero M)
         (times_over K A AL c l o.modulus modulus_nonzero N))
-        ∙ ring3 A AL (λ d x y. d ⊗ x ⊗ (d ⊗ y)) (λ d x y. d ⊗ (d ⊗ (x ⊗ y))) refl d (over M) (over N)
+        ∙ ring3 A AL (λ d x y. d ⊗ x ⊗ (d ⊗ y)) (λ d x y. d ⊗ (d ⊗ (x ⊗ y))) refl d (over M)
+        (over N)
 
     pub product_quotient : (Q : Plane K)
         × (T ≡ (planes K).mul (row_of K.ring o.modulus) Q)
@@ -81,7 +81,8 @@ module _ (K : Field) (A : RingOps) (AL : IsCommRing A) (c : Chart K.ring A) (l :
           ∙ sym (times_over K A AL c l o.modulus modulus_nonzero Q))
           (ap (at_u c) (first_modulus K A AL c l o a modulus)
           ∙ (at_u_map K A AL c l).on_mul (root_at K.ring a) o.modulus)
-          ∙ ring4 A AL (λ d q v r. d ⊗ q ⊕ neg (v ⊗ d ⊗ r)) (λ d q v r. d ⊗ (q ⊕ neg (v ⊗ r))) refl d
+          ∙ ring4 A AL (λ d q v r. d ⊗ q ⊕ neg (v ⊗ d ⊗ r))
+          (λ d q v r. d ⊗ (q ⊕ neg (v ⊗ r))) refl d
           (over Q) (at_u c (root_at K.ring a)) residue.rest)
 
       -- the residue of the quotient is a numerator

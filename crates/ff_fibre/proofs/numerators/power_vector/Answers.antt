@@ -29,7 +29,8 @@ vector_of_plane-requires g c =
 pub returns-clause-vector : goal.returns-clause-vector
 returns-clause-vector g c =
     let F = g.K.Ring.elements c.args.alg.now.k in
-    ok_map _ _ c.vector_of_plane.result (λ r h. subst (λ x. IsVector F (c.args.n * length x) r.items)
+    ok_map _ _ c.vector_of_plane.result
+    (λ r h. subst (λ x. IsVector F (c.args.n * length x) r.items)
     c.coeffs.ensures h) c.vector_of_plane.ensures.vector
 
 pub returns-clause-value : goal.returns-clause-value

@@ -39,7 +39,8 @@ returns g c =
       space = m.times;
       vectors = λ i l. subst (λ x. AreCoefficientsOf F n (length x) (vectors_of F (rows_of rows) i)
           (get_or planes i [])) c.coeffs.ensures (subst (λ x. AreCoefficientsOf F n
-          (length c.coeffs.result.now) (vectors_of F (rows_of x) i) (get_or planes i [])) c.deref.ensures.value
+          (length c.coeffs.result.now) (vectors_of F (rows_of x) i) (get_or planes i []))
+          c.deref.ensures.value
           (p.value i (omega (arith, l, p.len))));
       basis = c.in_ok-rows.ensures.basis;
     }

@@ -65,8 +65,10 @@ returns-clause-times g c =
     let f = c.args.alg.now.f in
     let old = c.args.order.now.space in
     let d = length c.args.order.now.d in
-    let l : length c.coeffs-l.result.now - 1 ≡ pred d = omega (arith, ap length c.coeffs-l.ensures) in
+    let l : length c.coeffs-l.result.now - 1 ≡ pred d = omega
+    (arith, ap length c.coeffs-l.ensures) in
     subst (λ t. IsTimesSpace L f t (pred d) d old c.in_ok-space.space) c.in_ok-factor.ensures.value
     (subst (λ m. IsTimesSpace L f (poly_of F c.in_ok-factor.factor) m d old c.in_ok-space.space) l
-    (subst (λ x. IsTimesSpace L f (poly_of F c.in_ok-factor.factor) (length c.coeffs-l.result.now - 1)
+    (subst (λ x. IsTimesSpace L f (poly_of F c.in_ok-factor.factor)
+    (length c.coeffs-l.result.now - 1)
     (length x) old c.in_ok-space.space) c.coeffs-l.ensures c.in_ok-space.ensures.times))

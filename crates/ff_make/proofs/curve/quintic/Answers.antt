@@ -12,4 +12,5 @@ returns-clause-few g c =
     let zero = c.zero-zero.result in
     let cs = zero ∷ c.args.c ∷ zero ∷ zero ∷ zero ∷ c.one.result ∷ [] in
     ok_both (λ r. IsPoly F r) (λ r. poly_of F r ≡ poly_of F cs) (λ r. length r ≤ 6)
-    c.from_coeffs.result (λ r p e. short_poly F L r cs 6 p e (omega arith)) c.from_coeffs.ensures.poly c.from_coeffs.ensures.value
+    c.from_coeffs.result (λ r p e. short_poly F L r cs 6 p e (omega arith))
+    c.from_coeffs.ensures.poly c.from_coeffs.ensures.value

@@ -7,8 +7,9 @@ use Rattle.ff_lin.specs.Space.{rows_of, SpaceParts, SameSpace, IsSpaceOf}
 use Rattle.ff_lin.proofs.InsertRow.{all-unmap}
 use Rattle.ff_lin.proofs.Compare.{true-is-false}
 use Rattle.ff_modulo.proofs.ModuloLemmas.{IsStage, stage-first, stage-same, stage-more}
+use Rattle.ff_modulo.proofs.bases.basis_modulo.Goals.{then-not-contains+in_ok-from_slice+in_ok-sum-2+in_ok-from_slice-2+in_ok-push}
+use Rattle.ff_modulo.proofs.bases.basis_modulo.Goals.{else-not-contains}
 use Rattle.ff_modulo.proofs.bases.basis_modulo.Goals as goal
-use Rattle.ff_modulo.proofs.bases.basis_modulo.Goals.{then-not-contains+in_ok-from_slice+in_ok-sum-2+in_ok-from_slice-2+in_ok-push, else-not-contains}
 
 pub span-requires : goal.span-requires
 span-requires g c =
@@ -26,11 +27,10 @@ loop-v-init g c =
     let F = g.K.Ring.elements c.args.k.now in
     let s = c.args.space.now in
     let sum = c.in_ok-sum.sum in
-    subst (λ xs. IsStage F (g.met.K.Ring.laws c.args.k.now) (g.met.K.Ring.tests c.args.k.now)
-    (g.met.K.Field.is_field c.args.k.now) s (rows_of c.args.vectors.now) sum (rows_of xs) 0)
+    subst (λ xs. IsStage (g.K.Ring.lawful c.args.k.now) s (rows_of c.args.vectors.now) sum
+    (rows_of xs) 0)
     (sym c.new-basis.ensures.items)
-    (stage-first F (g.met.K.Ring.laws c.args.k.now) (g.met.K.Ring.tests c.args.k.now)
-    (g.met.K.Field.is_field c.args.k.now) s (rows_of c.args.vectors.now) sum
+    (stage-first (g.K.Ring.lawful c.args.k.now) s (rows_of c.args.vectors.now) sum
     (subst (λ n. IsSpaceOf F n sum) c.len.ensures c.in_ok-sum.ensures.space)
     (subst (λ b. SameSpace F sum.basis b) c.basis.ensures c.in_ok-sum.ensures.same))
 
@@ -46,9 +46,7 @@ contains-requires-clause-v g c =
 pub loop-v-preserved : goal.loop-v-preserved
 loop-v-preserved g c =
     let F = g.K.Ring.elements c.args.k.now in
-    let laws = g.met.K.Ring.laws c.args.k.now in
-    let tests = g.met.K.Ring.tests c.args.k.now in
-    let field = g.met.K.Field.is_field c.args.k.now in
+    let L = g.K.Ring.lawful c.args.k.now in
     let s = c.args.space.now in
     let i = c.loop-v.v-index in
     let items = λ (r : Vec ℕ). r.items in
@@ -63,15 +61,15 @@ loop-v-preserved g c =
     (c.requires.vectors i c.v-item.result (omega (arith, c.loop-v-test.true)))) in
     elim c.if-not-contains.branch [
       | then-not-contains+in_ok-from_slice+in_ok-sum-2+in_ok-from_slice-2+in_ok-push w ↦
-          subst (λ t. IsStage F laws tests field s vs t (rows_of c.if-not-contains.basis.items)
+          subst (λ t. IsStage L s vs t (rows_of c.if-not-contains.basis.items)
           (i + 1)) (sym w.sum-is)
-          (subst (λ ys. IsStage F laws tests field s vs w.in_ok-sum-2.sum ys (i + 1))
+          (subst (λ ys. IsStage L s vs w.in_ok-sum-2.sum ys (i + 1))
           (sym (ap (λ (b : Vec (Vec ℕ)). rows_of b.items) w.basis-is
           ∙ ap rows_of w.in_ok-push.ensures.items
           ∙ map_push items c.loop-v.basis.items w.in_ok-from_slice-2.field-0
           ∙ ap (λ t. xs ++ t ∷ []) (w.in_ok-from_slice-2.ensures.items
           ∙ w.deref-then-not-contains-2.ensures.value ∙ sym c.deref.ensures.value)))
-          (stage-more F laws tests field s vs c.loop-v.sum w.in_ok-sum-2.sum xs i x
+          (stage-more L s vs c.loop-v.sum w.in_ok-sum-2.sum xs i x
           c.loop-v.invariant (omega (
             arith,
             c.loop-v-test.true,
@@ -88,11 +86,11 @@ loop-v-preserved g c =
           (w.in_ok-from_slice.field-0.items ∷ t.basis)) c.sum.view_is
           w.in_ok-sum-2.ensures.same))))
       | else-not-contains w ↦
-          subst (λ t. IsStage F laws tests field s vs t (rows_of c.if-not-contains.basis.items)
+          subst (λ t. IsStage L s vs t (rows_of c.if-not-contains.basis.items)
           (i + 1)) (sym w.sum-is)
-          (subst (λ (ys : Vec (Vec ℕ)). IsStage F laws tests field s vs c.loop-v.sum
+          (subst (λ (ys : Vec (Vec ℕ)). IsStage L s vs c.loop-v.sum
           (rows_of ys.items) (i + 1)) (sym w.basis-is)
-          (stage-same F laws tests field s vs c.loop-v.sum xs i x c.loop-v.invariant row
+          (stage-same L s vs c.loop-v.sum xs i x c.loop-v.invariant row
           (c.contains.ensures.0 w.if-not-contains.false)))
     ]
 

@@ -3,6 +3,5 @@ use Rattle.ff_modulo.proofs.ModuloLemmas.{IsStage}
 use Rattle.ff_modulo.proofs.bases.basis_modulo.Given as goal
 
 abbrev pub invariant-loop-v : goal.invariant-loop-v
-invariant-loop-v g l = IsStage (g.K.Ring.elements l.k) (g.met.K.Ring.laws l.k)
-    (g.met.K.Ring.tests l.k) (g.met.K.Field.is_field l.k) l.space (rows_of l.vectors) l.sum
-    (rows_of l.basis.items) l.v-index
+invariant-loop-v g l = IsStage (g.K.Ring.lawful l.k) l.space
+    (rows_of l.vectors) l.sum (rows_of l.basis.items) l.v-index

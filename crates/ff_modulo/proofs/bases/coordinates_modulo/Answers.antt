@@ -30,8 +30,7 @@ bounds-basis-0 g c =
     c.deref.ensures.value ∙ c.in_ok-images.ensures.value in
     let long : length c.deref.result.now ≡ suc (length rows) =
     sym (length-map c.deref.result.now items) ∙ ap length same in
-    let some : 0 < length R.basis = some-relation F (g.met.K.Ring.laws c.args.k.now)
-    (g.met.K.Ring.tests c.args.k.now) (g.met.K.Field.is_field c.args.k.now) s rows
+    let some : 0 < length R.basis = some-relation (g.K.Ring.lawful c.args.k.now) s rows
     c.args.v.items c.requires.independent c.requires.spanned R
     (subst (λ n. IsSpaceOf F n R) long c.in_ok-relations.ensures.space)
     (subst (λ t. HasExactly F R (λ c. InSpace F s (combination_of F t c))) same
@@ -50,8 +49,7 @@ negative_tail-requires g c =
     let long : length c.deref.result.now ≡ suc (length rows) =
     sym (length-map c.deref.result.now items) ∙ ap length same in
     let space = subst (λ n. IsSpaceOf F n R) long c.in_ok-relations.ensures.space in
-    let some : 0 < length R.basis = some-relation F (g.met.K.Ring.laws c.args.k.now)
-    (g.met.K.Ring.tests c.args.k.now) (g.met.K.Field.is_field c.args.k.now) s rows
+    let some : 0 < length R.basis = some-relation (g.K.Ring.lawful c.args.k.now) s rows
     c.args.v.items c.requires.independent c.requires.spanned R space
     (subst (λ t. HasExactly F R (λ c. InSpace F s (combination_of F t c))) same
     c.in_ok-relations.ensures.exact) in
@@ -76,8 +74,7 @@ returns-clause-vector g c =
     let long : length c.deref.result.now ≡ suc (length rows) =
     sym (length-map c.deref.result.now items) ∙ ap length same in
     let space = subst (λ n. IsSpaceOf F n R) long c.in_ok-relations.ensures.space in
-    let some : 0 < length R.basis = some-relation F (g.met.K.Ring.laws c.args.k.now)
-    (g.met.K.Ring.tests c.args.k.now) (g.met.K.Field.is_field c.args.k.now) s rows
+    let some : 0 < length R.basis = some-relation (g.K.Ring.lawful c.args.k.now) s rows
     c.args.v.items c.requires.independent c.requires.spanned R space
     (subst (λ t. HasExactly F R (λ c. InSpace F s (combination_of F t c))) same
     c.in_ok-relations.ensures.exact) in
@@ -104,8 +101,7 @@ returns-clause-value g c =
     let space = subst (λ n. IsSpaceOf F n R) long c.in_ok-relations.ensures.space in
     let exact = subst (λ t. HasExactly F R (λ c. InSpace F s (combination_of F t c))) same
     c.in_ok-relations.ensures.exact in
-    let some : 0 < length R.basis = some-relation F (g.met.K.Ring.laws c.args.k.now)
-    (g.met.K.Ring.tests c.args.k.now) (g.met.K.Field.is_field c.args.k.now) s rows
+    let some : 0 < length R.basis = some-relation (g.K.Ring.lawful c.args.k.now) s rows
     c.args.v.items c.requires.independent c.requires.spanned R space exact in
     let first = first-row F (suc (length rows)) R space some c.basis.result.now
     c.index-basis-0.result c.basis.ensures c.index-basis-0.is in
@@ -113,9 +109,9 @@ returns-clause-value g c =
     first.0 ∙ sym c.deref-2.ensures.value in
     let len : length c.deref-2.result.now ≡ suc (length rows) =
     ap length c.deref-2.ensures.value ∙ first.1.len in
-    ok_map _ _ c.negative_tail.result (λ r h. relation-coordinates F
-    (g.met.K.Ring.laws c.args.k.now) (g.met.K.Ring.tests c.args.k.now)
-    (g.met.K.Field.is_field c.args.k.now) s rows c.args.v.items c.requires.independent
+    ok_map _ _ c.negative_tail.result
+    (λ r h. relation-coordinates
+    (g.K.Ring.lawful c.args.k.now) s rows c.args.v.items c.requires.independent
     c.requires.spanned R space exact (vector_of F r.items)
     (λ i l. h i (omega (arith, l, len)) ∙ ap (λ t. F.neg (vector_of F t (suc i))) (sym row)))
     c.negative_tail.ensures.value

@@ -1,11 +1,12 @@
-use Rattle.std.proofs.Common.{◌≡◌, ℕ, ◌<◌, ◌-◌, suc, ◌∷◌, length, sym, ◌∙◌, ap, subst, arith, All}
+use Rattle.std.proofs.Common.{◌≡◌, ℕ, ◌-◌, suc, ◌∷◌, length, sym, ◌∙◌, ap, subst, arith, All}
 use Rattle.std.proofs.lemmas.List.{length-map}
 use Rattle.std.specs.Global.{Vec}
 use Rattle.ff_theory.specs.Vector.{vector_of, IsVector, combination_of}
 use Rattle.ff_theory.proofs.Results.{ok_map}
 use Rattle.ff_lin.specs.Space.{rows_of, AreVectors, IsSpaceOf, InSpace, HasExactly}
 use Rattle.ff_lin.proofs.InsertRow.{all-map, all-unmap}
-use Rattle.ff_modulo.proofs.ModuloLemmas.{all-cons, some-map, none-map, relation-solves, no-relation}
+use Rattle.ff_modulo.proofs.ModuloLemmas.{all-cons, some-map, none-map, relation-solves}
+use Rattle.ff_modulo.proofs.ModuloLemmas.{no-relation}
 use Rattle.ff_modulo.proofs.bases.solve_modulo.Goals as goal
 
 pub preimage-requires-clause-images : goal.preimage-requires-clause-images
@@ -34,8 +35,8 @@ returns-clause-some g c =
     let exact = subst (λ t. HasExactly F R (λ c. InSpace F s (combination_of F t c))) same
     c.in_ok-relations.ensures.exact in
     ok_map _ _ c.first_tail.result (λ o h. some-map o _ _ (λ r k.
-    relation-solves F (g.met.K.Ring.laws c.args.k.now) (g.met.K.Ring.tests c.args.k.now)
-    (g.met.K.Field.is_field c.args.k.now) s rows c.args.v.items R space exact k.whole k.inside
+    relation-solves (g.K.Ring.lawful c.args.k.now) s rows c.args.v.items R space exact k.whole
+    k.inside
     k.first (vector_of F (items r)) (λ i l. k.rest i (omega (arith, l, space.len)))) h)
     c.first_tail.ensures.some
 
@@ -55,6 +56,5 @@ returns-clause-none g c =
     let exact = subst (λ t. HasExactly F R (λ c. InSpace F s (combination_of F t c))) same
     c.in_ok-relations.ensures.exact in
     ok_map _ _ c.first_tail.result (λ o h. none-map o _ _ (λ k.
-    no-relation F (g.met.K.Ring.laws c.args.k.now) (g.met.K.Ring.tests c.args.k.now)
-    (g.met.K.Field.is_field c.args.k.now) s rows c.args.v.items R space exact k) h)
+    no-relation (g.K.Ring.lawful c.args.k.now) s rows c.args.v.items R space exact k) h)
     c.first_tail.ensures.none

@@ -50,7 +50,7 @@ returns g c =
     let last = last_row K laws tests rows c.index-rows-n.result c.requires.plane
     (omega (arith, c.requires.has_y)) c.index-rows-n.is in
     let end : c.loop-i.i ≡ n = omega arith in
-    rows_degree K laws tests (g.met.K.Field.is_field c.args.k.now) rows n
+    rows_degree (g.K.Ring.lawful c.args.k.now) rows n
     (length c.coeffs.result.now - 1) c.loop-i.degree c.coeffs.result.now c.requires.plane
     (omega (arith, c.requires.has_y)) (omega (arith, last.1, ap length c.coeffs.ensures))
     (c.coeffs.ensures ∙ c.index-rows-n.is ∙ get_or_default rows n c.index-rows-n.result []

@@ -1,4 +1,4 @@
-use Rattle.std.proofs.Common.{◌≡◌, ◌-◌, length, get_or, sym, ◌∙◌, arith, refl}
+use Rattle.std.proofs.Common.{◌-◌, length, get_or, sym, ◌∙◌, arith, refl}
 use Rattle.ff_theory.specs.Values.{poly_of}
 use Rattle.ff_ring.proofs.EntryLemmas.{no-poly, no-poly-is}
 use Rattle.ff_ring.proofs.LineLemmas.{value-more, value-none, value-end}
@@ -12,7 +12,8 @@ loop-i-init g c =
       below = omega arith;
       is_poly = no-poly F c.zero-value.result c.zero-value.ensures;
       value = no-poly-is F c.zero-value.result c.zero-value.ensures
-          ∙ sym (value-none F L (poly_of F c.args.line.now) c.args.c.now (length c.args.c.now) refl);
+          ∙ sym (value-none F L (poly_of F c.args.line.now) c.args.c.now
+          (length c.args.c.now) refl);
     }
 
 pub loop-i-preserved : goal.loop-i-preserved
@@ -32,5 +33,6 @@ loop-i-preserved g c =
 pub returns-clause-value : goal.returns-clause-value
 returns-clause-value g c =
     let F = g.K.Ring.elements c.args.k.now in
-    value-end F (g.K.Ring.lawful c.args.k.now) (poly_of F c.args.line.now) (poly_of F c.loop-i.value)
+    value-end F (g.K.Ring.lawful c.args.k.now) (poly_of F c.args.line.now)
+    (poly_of F c.loop-i.value)
     c.args.c.now c.loop-i.i (omega (arith, c.loop-i-test.false)) c.loop-i.invariant.value

@@ -1,4 +1,4 @@
-use Rattle.std.proofs.Common.{◌≡◌, List, ℕ, length, sym, subst}
+use Rattle.std.proofs.Common.{◌≡◌, length, sym, subst}
 use Rattle.ff_theory.specs.Values.{polys_over}
 use Rattle.ff_theory.proofs.Results.{ok_map}
 use Rattle.ff_ring.specs.Entries.{entry_at, AreEntries}
@@ -17,7 +17,8 @@ returns-clause-value g c =
     let a = c.args.a.now in
     let b = c.args.b.now in
     let y = c.deref.result.now in
-    ok_map (λ (r : _). AreEntries F (length h) (λ l. P.add (entry_at F h l) (entry_at F y l)) r.items)
+    ok_map (λ (r : _). AreEntries F (length h)
+    (λ l. P.add (entry_at F h l) (entry_at F y l)) r.items)
     (λ (r : _). element_in F s r.items ≡
     T.add (element_in F s h) (T.mul (element_in F s a) (element_in F s b)))
     c.ring_add.result

@@ -8,7 +8,8 @@ pub returns-then-term-more-clause-value : goal.returns-then-term-more-clause-val
 returns-then-term-more-clause-value g c = λ rule.
     let F = g.K.Ring.elements c.args.k.now in
     let L = g.K.Ring.lawful c.args.k.now in
-    coefficient-other F L c.args.s.now c.requires.table rule c.args.h.now c.in-Some.term c.args.power
+    coefficient-other F L c.args.s.now c.requires.table rule c.args.h.now c.in-Some.term
+    c.args.power
     c.args.more c.args.n c.zero.result c.requires.h c.in-Some.ensures
     (λ z. omega (arith, c.if-term-more.true, z)) c.zero.ensures.value
 

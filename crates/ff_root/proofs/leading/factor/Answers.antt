@@ -15,7 +15,8 @@ returns-clause-value g c =
     let a = c.index.result.now in
     let b = c.index-2.result.now in
     let p = c.index-3.result.now in
-    c.leading_coefficient.ensures.value ∙ ap (leading F) (table-read F L s c.requires.table a b p i j l
+    c.leading_coefficient.ensures.value
+    ∙ ap (leading F) (table-read F L s c.requires.table a b p i j l
     c.requires.i c.requires.j c.requires.l
     (c.index.ensures ∙ ap (λ (t : System). get_or t.table i a) c.s.view_is)
     (c.index-2.ensures ∙ ap (λ t. get_or t j b) c.behind-s.view_is)

@@ -1,13 +1,11 @@
-use Rattle.std.proofs.Common.{◌≡◌, ◌∙◌, ◌∷◌, ap, sym, subst, refl, arith, [], ℕ, length, map, All}
+use Rattle.std.proofs.Common.{◌∙◌, ◌∷◌, ap, sym, subst, refl, arith, [], length, map, All}
 use Rattle.std.proofs.lemmas.List.{get_or_default, length-append}
 use Rattle.std.proofs.lemmas.List.Elements.{All-push}
 use Rattle.ff_theory.specs.Ring.{IsElement}
 use Rattle.ff_theory.specs.Poly.{coeff}
 use Rattle.ff_theory.proofs.Coeffs.{coeff-push}
 use Rattle.ff_table.specs.Roots.{leading_poly}
-use Rattle.ff_data.specs.Systems.{weight_at}
 use Rattle.ff_ring.specs.Ring.{table_in, elements_in}
-use Rattle.ff_root.specs.States.{IsPowerLead}
 use Rattle.ff_root.proofs.LeadLemmas.{power-none, power-more, leading-entry, leading-whole}
 use Rattle.ff_root.proofs.LeadLemmas.{level-is}
 use Rattle.ff_root.proofs.leading.leading_poly.Goals as goal
@@ -45,7 +43,8 @@ loop-i-preserved g c =
       power = c.product_lead-power.ensures.lead;
       lead = λ rule. power-more F L s c.requires.table rule t i _ c.loop-i.power
           c.product_lead-power.result _ refl c.class_of.ensures.value c.one.ensures.value
-          (old.lead rule) c.product_lead-power.ensures.class (c.product_lead-power.ensures.value rule);
+          (old.lead rule) c.product_lead-power.ensures.class
+          (c.product_lead-power.ensures.value rule);
       value = λ rule j h. ap (λ l. coeff F.ring (map F.value l) j) items
           ∙ coeff-push F.ring F.value list x
           (coeff F.ring (leading_poly F.ring (table_in F s) t (elements_in F s p))) i old.count

@@ -7,5 +7,6 @@ abbrev pub invariant-loop-i : goal.invariant-loop-i
 invariant-loop-i g l =
     let F = g.K.Ring.elements l.k in
     let S = table_in F l.s in
-    MeetsRule F l.s → max l.n (top_weight F.ring S l.t (l.i * l.t) (elements_in F l.s (drop l.i l.p)))
+    MeetsRule F l.s → max l.n
+    (top_weight F.ring S l.t (l.i * l.t) (elements_in F l.s (drop l.i l.p)))
     ≡ top_weight F.ring S l.t 0 (elements_in F l.s l.p)

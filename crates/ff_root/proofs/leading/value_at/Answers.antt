@@ -1,4 +1,4 @@
-use Rattle.std.proofs.Common.{◌≡◌, ◌-◌, length, get_or, sym, ◌∙◌, ap, arith, refl}
+use Rattle.std.proofs.Common.{◌-◌, length, get_or, sym, ◌∙◌, ap, arith, refl}
 use Rattle.ff_root.proofs.ValueLemmas.{value-more, value-none, value-whole}
 use Rattle.ff_root.proofs.leading.value_at.Goals as goal
 
@@ -20,8 +20,10 @@ loop-i-preserved g c =
     record {
       below = omega (arith, c.loop-i.invariant.below);
       element = c.add-value.ensures.element;
-      value = value-more F c.args.c (F.value c.loop-i.value) (F.value c.add-value.result) c.args.p.now i
-          (i - 1) x (omega (arith, c.loop-i-test.true)) refl (omega (arith, c.loop-i.invariant.below))
+      value = value-more F c.args.c (F.value c.loop-i.value)
+          (F.value c.add-value.result) c.args.p.now i
+          (i - 1) x (omega (arith, c.loop-i-test.true)) refl
+          (omega (arith, c.loop-i.invariant.below))
           refl c.loop-i.invariant.value
           (c.add-value.ensures.value ∙ ap (F.add (F.value x)) c.mul.ensures.value);
     }

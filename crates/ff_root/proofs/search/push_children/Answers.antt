@@ -1,16 +1,15 @@
-use Rattle.std.proofs.Common.{◌≡◌, ◌+◌, ◌<◌, ◌++◌, ◌∷◌, [], Bool, true, false, ◌∙◌, refl, ap, sym}
-use Rattle.std.proofs.Common.{subst, arith, length, map, ℕ, List}
+use Rattle.std.proofs.Common.{◌≡◌, ◌+◌, ◌<◌, ◌++◌, ◌∷◌, [], true, false, ◌∙◌, refl, ap, sym}
+use Rattle.std.proofs.Common.{subst, arith, length}
 use Rattle.std.proofs.lemmas.List.{append-nil}
-use Rattle.ff_table.specs.Roots.{child, children, leading_poly}
-use Rattle.ff_table.specs.Shift.{value_at}
-use Rattle.ff_ring.specs.Ring.{table_in, elements_in}
+use Rattle.ff_table.specs.Roots.{child, children}
+use Rattle.ff_ring.specs.Ring.{table_in}
 use Rattle.ff_root.specs.declared.state.State.{State}
 use Rattle.ff_root.specs.States.{AreStates, state_in, states_in}
 use Rattle.ff_root.proofs.SearchLemmas.{grown, grown-all, counted, counted-end, children_rest}
 use Rattle.ff_root.proofs.SearchLemmas.{children-first, children-yes, children-no, children-none}
 use Rattle.ff_root.proofs.SearchLemmas.{leading-test}
-use Rattle.ff_root.proofs.search.push_children.Goals as goal
 use Rattle.ff_root.proofs.search.push_children.Goals.{then-is_root+in-Ok, else-is_root}
+use Rattle.ff_root.proofs.search.push_children.Goals as goal
 
 pub loop-i-init : goal.loop-i-init
 loop-i-init g c =
@@ -114,9 +113,11 @@ returns-in-Err-clause-count g c = λ rule.
     let a = state_in F s c.args.state.now in
     let i = c.loop-i.i in
     let x = F.value c.nth-c.result in
-    counted-end (child F.ring S t a x ∷ []) (children_rest F s t a i) (children_rest F s t a (i + 1))
+    counted-end (child F.ring S t a x ∷ []) (children_rest F s t a i)
+    (children_rest F s t a (i + 1))
     (children F.field S t a) c.loop-i.nodes c.push_child.new.nodes c.args.nodes.now
-    (children-yes F s t a i (i + 1) x (omega (arith, c.loop-i-test.true, c.count-i-end.ensures)) refl
+    (children-yes F s t a i (i + 1) x
+    (omega (arith, c.loop-i-test.true, c.count-i-end.ensures)) refl
     c.nth-c.ensures.value
     (leading-test F s t c.args.state.now c.nth-c.result c.deref-in-loop-i.result.now
     c.in_ok-leading.leading.items c.deref.result.now c.is_root.result true

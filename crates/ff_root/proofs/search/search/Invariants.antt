@@ -10,7 +10,8 @@ invariant-loop-i g l =
     let S = table_in F l.s in
     record {
       states : AreStates F l.s l.m l.states.items;
-      value : MeetsRule F l.s → search F.field S (l.weight + 1 - l.i) (states_in F l.s l.states.items)
+      value : MeetsRule F l.s → search F.field S (l.weight + 1 - l.i)
+          (states_in F l.s l.states.items)
           ≡ search F.field S (l.weight + 1) (states_in F l.s l.fn.states.items);
       nodes : l.fn.nodes ≤ l.nodes;
       count : MeetsRule F l.s → l.nodes

@@ -1,4 +1,5 @@
-use Rattle.std.proofs.Common.{◌≡◌, ◌+◌, ◌∷◌, ◌++◌, ◌∙◌, [], length, true, false, refl, ap, sym, subst, arith, All}
+use Rattle.std.proofs.Common.{◌≡◌, ◌+◌, ◌∷◌, ◌++◌, ◌∙◌, [], length, true, false, refl, ap, sym}
+use Rattle.std.proofs.Common.{subst, arith, All}
 use Rattle.std.proofs.lemmas.List.{append-nil, get_or_default}
 use Rattle.std.proofs.lemmas.List.Elements.{All-push}
 use Rattle.ff_root.specs.declared.state.State.{State}
@@ -10,9 +11,9 @@ use Rattle.ff_root.specs.States.{IsState, states_in}
 use Rattle.ff_root.proofs.SearchLemmas.{grown, grown-all, finished_rest, finished-first}
 use Rattle.ff_root.proofs.SearchLemmas.{finished-yes, finished-no, finished-none}
 use Rattle.ff_root.proofs.StateLemmas.{ends-yes, ends-no}
-use Rattle.ff_root.proofs.state.finished.Goals as goal
 use Rattle.ff_root.proofs.state.finished.Goals.{then-is_finished+in_ok-copy+in_ok-push}
 use Rattle.ff_root.proofs.state.finished.Goals.{else-is_finished}
+use Rattle.ff_root.proofs.state.finished.Goals as goal
 
 pub loop-i-init : goal.loop-i-init
 loop-i-init g c =
@@ -50,8 +51,10 @@ loop-i-preserved g c =
           record {
             coords = subst (All (AreCoords F s)) (sym items) (All-push (AreCoords F s) old x
                 c.loop-i.invariant.coords (subst (AreCoords F s) (sym same) form.sum));
-            value = λ rule. grown (elements_in F s old) (elements_in F s c.if-is_finished.sums.items)
-                (element_in F s x ∷ []) (finished_rest F s states i) (finished_rest F s states _) whole
+            value = λ rule. grown (elements_in F s old)
+                (elements_in F s c.if-is_finished.sums.items)
+                (element_in F s x ∷ []) (finished_rest F s states i)
+                (finished_rest F s states _) whole
                 (ap (elements_in F s) items ∙ elements-push F L s old x)
                 (finished-yes F s states i _ a inside refl c.index-states-i.is
                 (ends-yes F L s rule a.moved c.args.m c.requires.weights form.moved c.requires.some
@@ -63,7 +66,8 @@ loop-i-preserved g c =
           let items : c.if-is_finished.sums.items ≡ old = λ k. (w.sums-is k).items in
           record {
             coords = subst (All (AreCoords F s)) (sym items) c.loop-i.invariant.coords;
-            value = λ rule. grown (elements_in F s old) (elements_in F s c.if-is_finished.sums.items)
+            value = λ rule. grown (elements_in F s old)
+                (elements_in F s c.if-is_finished.sums.items)
                 [] (finished_rest F s states i) (finished_rest F s states _) whole
                 (ap (elements_in F s) items ∙ sym (append-nil (elements_in F s old)))
                 (finished-no F s states i _ a inside refl c.index-states-i.is

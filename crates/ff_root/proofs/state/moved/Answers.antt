@@ -13,7 +13,8 @@ returns-then-is_zero-clause-value g c = λ rule.
     let a = c.args.a.now in
     let p = c.args.p.now in
     ok_map (λ (r : _). r.items ≡ p)
-    (λ (r : _). elements_in F s r.items ≡ shift (ring_in F s) (monomial_in F s a) (elements_in F s p))
+    (λ (r : _). elements_in F s r.items ≡ shift (ring_in F s) (monomial_in F s a)
+    (elements_in F s p))
     c.copies.result
     (λ r h. moved-nothing F L s rule a p r.items
     (L.tests.same_true _ _ (sym c.is_zero.ensures ∙ c.if-is_zero.true)) h)

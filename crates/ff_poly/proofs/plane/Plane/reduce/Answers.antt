@@ -31,7 +31,7 @@ reduce-preserved g c =
     c.rows-in-reduce-4.ensures c.in_ok-c.ensures.value) in
     record {
       factor = c.in_ok-factor-2.ensures.poly;
-      nonzero = product_nonzero K laws tests (g.met.K.Field.is_field c.args.k.now) c.in_ok-c.c
+      nonzero = product_nonzero (g.K.Ring.lawful c.args.k.now) c.in_ok-c.c
           c.reduce.factor factor c.in_ok-c.ensures.factor c.reduce.invariant.factor
           c.in_ok-factor-2.ensures.poly c.in_ok-factor-2.ensures.value c.in_ok-c.ensures.nonzero
           c.reduce.invariant.nonzero;
@@ -56,7 +56,7 @@ reduce-preserved-in_ok-factor-2 g c =
     c.rows-in-reduce-4.ensures c.in_ok-c.ensures.value) in
     record {
       factor = c.in_ok-factor-2.ensures.poly;
-      nonzero = product_nonzero K laws tests (g.met.K.Field.is_field c.args.k.now) c.in_ok-c.c
+      nonzero = product_nonzero (g.K.Ring.lawful c.args.k.now) c.in_ok-c.c
           c.reduce.factor factor c.in_ok-c.ensures.factor c.reduce.invariant.factor
           c.in_ok-factor-2.ensures.poly c.in_ok-factor-2.ensures.value c.in_ok-c.ensures.nonzero
           c.reduce.invariant.nonzero;
