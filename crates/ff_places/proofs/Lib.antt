@@ -1,0 +1,24 @@
+-- A field with the spaces of one of its points
+pub mod FieldSpaces
+pub mod Regular
+pub mod Values
+pub mod AlgebraicConstants
+-- Elements bounded over one with a pole, and the rings that have them
+pub mod Bounded
+pub mod ChartRings
+pub mod SpacesWithin
+-- Charts of the field
+pub mod ChartOrders
+pub mod RegularCharts
+-- E(f) with the spaces of one of its points
+pub mod CurvePlaces
+pub mod PlacePoints
+pub mod SystemSpaces
+pub mod TwoPoints
+-- Isomorphisms of fields
+pub mod Isomorphisms
+pub mod CarriedPlaces
+pub mod MatchedSystems
+-- The isomorphism that a pair and its inverse pair give
+pub mod PairMaps
+pub mod PairIsomorphisms
