@@ -1,27 +1,25 @@
 -- Only constants are roots of polynomials over k that are not 0, in a field with the spaces of one
 -- of its points.
-use Rattle.std.proofs.Common.{◌≡◌, ℕ, zero, suc, ◌<◌, ◌⊎◌, inl, inr, Bool, true}
-use Rattle.std.proofs.Common.{false, List, [], ◌∷◌, length, refl, sym, ◌∙◌, ap, ap₂, subst, arith}
+use Rattle.std.proofs.Common.{◌≡◌, ℕ, zero, suc, ◌⊎◌, inl, inr, Bool, true}
+use Rattle.std.proofs.Common.{false, List, [], ◌∷◌, length, refl, sym, ◌∙◌, ap, subst, arith}
 use Rattle.ff_theory.specs.Ring.{power}
 use Rattle.ff_theory.specs.Lawful.{Domain, Field}
 use Rattle.ff_theory.specs.Map.{IsMap}
 use Rattle.ff_theory.specs.Eval.{eval_list, eval}
-use Rattle.ff_theory.specs.Poly.{Poly, poly, polynomials, coeff}
+use Rattle.ff_theory.specs.Poly.{Poly, polynomials, coeff}
 use Rattle.ff_theory.specs.Division.{size}
 use Rattle.ff_theory.proofs.Solver.{◌⊕◌, ◌⊗◌, neg, nil, unit, ring1, ring2, ring6}
-use Rattle.ff_theory.proofs.Evaluate.{eval_map, eval-const, at_trim}
 use Rattle.ff_theory.proofs.PolyMap.{polynomial_domain, nonzero_size}
-use Rattle.ff_theory.proofs.Product.{poly-coeff}
 use Rattle.ff_theory.proofs.Division.{top_nonzero}
 use Rattle.ff_theory.proofs.Dependence.{differs}
 use Rattle.ff_theory.proofs.Domains.{no_divisors, field_domain}
-use Rattle.ff_charts.proofs.Rows.{exact_size}
 use Rattle.ff_table.proofs.Substitution.{at_zeta, at_zeta-size}
 use Rattle.ff_places.proofs.FieldSpaces.{FieldSpaces}
 use Rattle.ff_places.proofs.Regular.{AtLeast, HasPole, at_least_mul, at_least_add, constant_regular}
 use Rattle.ff_places.proofs.Regular.{regular, regular_or_pole, zero_at_least, value_at}
-use Rattle.ff_places.proofs.Values.{one_value, value_constant, HasValue}
+use Rattle.ff_places.proofs.Values.{vanishing_constant, HasValue}
 use Rattle.ff_places.proofs.ChartOrders.{list_regular}
+use Rattle.ff_places.proofs.LinearValues.{linear_poly, linear_size, linear_value, value_at_zeta}
 use Rattle.ff_places.proofs.RegularCharts.{pole_inverse, pole_proper}
 
 module _ {K : Field} (S : FieldSpaces K) where
@@ -47,12 +45,6 @@ module _ {K : Field} (S : FieldSpaces K) where
   power_small t h zero = subst (AtLeast S 1) (sym (S.laws.mul_one t)) h
   power_small t h (suc n) = at_least_mul S 1 0 _ _ h (regular S _ (power_small t h n))
 
-  -- a constant that vanishes is 0
-  no_constant : (s : K.carrier) → AtLeast S 1 (S.constant s) → s ≡ K.zero
-  no_constant s h = sym (one_value S (S.constant s) K.zero s (subst (AtLeast S 1)
-      (ring1 S.ring S.laws (λ a. a) (λ a. a ⊕ neg nil) refl (S.constant s)
-      ∙ ap (λ t. S.constant s ⊞ minus t) (sym M.on_zero)) h) (value_constant S s))
-
   -- a relation of the powers of an element that vanishes and is not 0 has zeros alone
   only_zeros : (v : S.carrier) → AtLeast S 1 v → ¬ (v ≡ S.zero) → (p : List K.carrier)
       → eval_list S.ring S.constant v p ≡ S.zero → (i : ℕ) → coeff K.ring p i ≡ K.zero
@@ -67,7 +59,7 @@ module _ {K : Field} (S : FieldSpaces K) where
           (regular S v small) p
 
       first : s ≡ K.zero
-      first = no_constant s (subst (AtLeast S 1) (ring2 S.ring S.laws
+      first = vanishing_constant S s (subst (AtLeast S 1) (ring2 S.ring S.laws
           (λ s y. neg y) (λ s y. s ⊕ neg (s ⊕ y)) refl (S.constant s) (v * value)
           ∙ ap (λ t. S.constant s ⊞ minus t) e
           ∙ ring1 S.ring S.laws (λ s. s ⊕ neg nil) (λ s. s) refl (S.constant s))
@@ -112,46 +104,6 @@ module _ {K : Field} (S : FieldSpaces K) where
           ⊞ (o ⊞ minus (S.constant (coeff K.ring p n))))
           (ring1 S.ring S.laws (λ v. unit ⊗ v) (λ v. v) refl (power S.ring t n * value))
 
-  -- c + T
-  linear_poly : K.carrier → Poly K.ring
-  linear_poly c = poly K.ring (c ∷ K.one ∷ [])
-
-  linear_size : (c : K.carrier) → size K.ring (linear_poly c) ≡ 2
-  unfolding linear_poly
-  linear_size c = exact_size K.ring K.laws K.tests (poly K.ring (c ∷ K.one ∷ [])) 1
-      (λ z. K.is_field.one_not_zero (sym (poly-coeff K.ring K.laws K.tests (c ∷ K.one ∷ []) 1) ∙ z))
-      past
-    where
-      past : (i : ℕ) → 1 < i → coeff K.ring (poly K.ring (c ∷ K.one ∷ [])).coeffs i ≡ K.zero
-      past zero l = absurd (omega (arith, l))
-      past (suc zero) l = absurd (omega (arith, l))
-      past (suc (suc i)) l = poly-coeff K.ring K.laws K.tests (c ∷ K.one ∷ []) (suc (suc i))
-
-  linear_value : (v : S.carrier) (c : K.carrier) → eval K.ring S.ring S.constant v (linear_poly c)
-      ≡ S.constant c ⊞ v
-  unfolding linear_poly poly eval
-  linear_value v c = at_trim K.ring S.ring K.laws K.tests S.laws S.constant M v (c ∷ K.one ∷ [])
-      ∙ ap (λ o. S.constant c ⊞ v * (o ⊞ v * S.zero)) M.on_one
-      ∙ ring2 S.ring S.laws (λ c v. c ⊕ v ⊗ (unit ⊕ v ⊗ nil)) (λ c v. c ⊕ v) refl (S.constant c) v
-
-  -- the value at v of p at zeta is that of p at the value of zeta
-  evaluated : (v : S.carrier) (zeta : Poly K.ring) (linear : size K.ring zeta ≡ 2) (p : Poly K.ring)
-      → eval K.ring S.ring S.constant v (at_zeta K zeta linear p)
-      ≡ eval K.ring S.ring S.constant (eval K.ring S.ring S.constant v zeta) p
-  unfolding eval
-  evaluated v zeta linear p = lists p.coeffs
-    where
-      E : IsMap (polynomials K.ring) S.ring (eval K.ring S.ring S.constant v)
-      E = eval_map K.ring S.ring K.laws K.tests S.laws S.constant M v
-
-      lists : (p : List K.carrier) → eval K.ring S.ring S.constant v
-          (eval_list (polynomials K.ring) (λ c. poly K.ring (c ∷ [])) zeta p)
-          ≡ eval_list S.ring S.constant (eval K.ring S.ring S.constant v zeta) p
-      lists [] = E.on_zero
-      lists (s ∷ p) = E.on_add _ _ ∙ ap₂ S.add
-          (eval-const K.ring S.ring K.laws K.tests S.laws S.constant M v s)
-          (E.on_mul zeta _ ∙ ap (λ t. eval K.ring S.ring S.constant v zeta * t) (lists p))
-
   pub algebraic_constant : (w : S.carrier) (p : Poly K.ring)
       → (polynomials K.ring).same p (polynomials K.ring).zero ≡ false
       → eval K.ring S.ring S.constant w p ≡ S.zero → (c : K.carrier) × (w ≡ S.constant c)
@@ -165,7 +117,7 @@ module _ {K : Field} (S : FieldSpaces K) where
       top = top_nonzero K.ring K.laws K.tests p n.0 n.1
 
       go : AtLeast S 0 w ⊎ HasPole S w → (c : K.carrier) × (w ≡ S.constant c)
-      go (inr h) = absurd (top (no_constant _ (subst (AtLeast S 1) (ring2 S.ring S.laws
+      go (inr h) = absurd (top (vanishing_constant S _ (subst (AtLeast S 1) (ring2 S.ring S.laws
           (λ t c. neg (t ⊗ nil ⊕ neg c)) (λ t c. c) refl (power S.ring (S.inverse w) n.0)
           (S.constant (coeff K.ring p.coeffs n.0)))
           (negative _ (subst (λ y. AtLeast S 1 (power S.ring (S.inverse w) n.0 * y
@@ -193,16 +145,19 @@ module _ {K : Field} (S : FieldSpaces K) where
               n.0 n.1) (only_zeros v c.1 (differs S.ring S.laws S.tests v z) q.coeffs shifted n.0))
             where
               zeta : Poly K.ring
-              zeta = linear_poly c.0
+              zeta = linear_poly K c.0 K.one
 
-              linear : size K.ring (linear_poly c.0) ≡ 2
-              linear = linear_size c.0
+              linear : size K.ring (linear_poly K c.0 K.one) ≡ 2
+              linear = linear_size K c.0 K.one K.is_field.one_not_zero
 
               q : Poly K.ring
-              q = at_zeta K (linear_poly c.0) (linear_size c.0) p
+              q = at_zeta K (linear_poly K c.0 K.one) linear p
 
               shifted : eval_list S.ring S.constant v q.coeffs ≡ S.zero
-              shifted = evaluated v (linear_poly c.0) (linear_size c.0) p
-                  ∙ ap (λ y. eval K.ring S.ring S.constant y p) (linear_value v c.0
-                  ∙ ring2 S.ring S.laws (λ w c. c ⊕ (w ⊕ neg c)) (λ w c. w) refl w (S.constant c.0))
-                  ∙ e
+              shifted = value_at_zeta K S.ring S.laws S.constant M v
+                  (linear_poly K c.0 K.one) linear p
+                  ∙ ap (λ y. eval K.ring S.ring S.constant y p)
+                  (linear_value K S.ring S.laws S.constant M v c.0 K.one
+                  ∙ ap (λ o. o * v ⊞ S.constant c.0) M.on_one
+                  ∙ ring2 S.ring S.laws (λ w c. unit ⊗ (w ⊕ neg c) ⊕ c) (λ w c. w) refl w
+                  (S.constant c.0)) ∙ e

@@ -21,7 +21,7 @@ use Rattle.ff_systems.specs.Places.{IsPlace}
 use Rattle.ff_places.proofs.FieldSpaces.{AreFieldSpaces}
 use Rattle.ff_places.proofs.CurvePlaces.{curve_field}
 use Rattle.ff_places.proofs.PlacePoints.{IsWithinPoint, place_points}
-use Rattle.ff_places.proofs.SystemSpaces.{system_spaces}
+use Rattle.ff_places.proofs.SystemSpaces.{least_functions, system_spaces}
 use Rattle.ff_places.proofs.Isomorphisms.{FieldIsomorphism, inverse_isomorphism, carried}
 use Rattle.ff_places.proofs.TwoPoints.{other_chart, same_spaces}
 
@@ -41,13 +41,8 @@ module _ (F : Elements ℕ) (L : Lawful F)
       → IsSystem L f o p other J s → AreFieldSpaces (lawful_field L)
       (curve_field F L f hf two at.irreducible) (constant (lawful_field L) (plane_of F f))
       (HasPoleUpTo L f o p other)
-  spaces_at f hf two o p other at J s y = system_spaces F L f hf two o p other at s (record {
-    positive = y.positive;
-    is_number = y.is_number;
-    least = y.least;
-    z = y.z;
-    basis = y.basis;
-  }) y.form.weights J y
+  spaces_at f hf two o p other at J s y = system_spaces F L f hf two o p other at s
+      (least_functions L f o p other J s y) y.form.weights J y
 
   -- spaces of a point of a field that hold those of a point of f lie in these
   module _ (f : List (List ℕ)) (hf : IsPlane F f) (two : 1 < length f) (o : Order) (p : Point)

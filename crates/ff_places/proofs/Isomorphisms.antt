@@ -113,12 +113,13 @@ module _ {K A B : Field} {constant_a : K.carrier → A.carrier} {constant_b : K.
     carried_steps = record {
       only = λ b m. let c = are.steps.only (σ.back b) m in
           (c.0, sym (σ.to_back b) ∙ ap σ.to c.1 ∙ σ.to_constant c.0);
-      next = λ j a b m n. let c = are.steps.next j (σ.back a) (σ.back b) m (has_back (suc j) b n) in (
-        c.0,
-        subst (L j) (sym (back_add a _ ∙ ap (A.add (σ.back a)) (back_neg _
-            ∙ ap A.neg (back_mul (constant_b c.0) b ∙ ap (λ t. A.mul t (σ.back b))
-            (back_constant c.0))))) c.1,
-      );
+      next = λ j a b m n. let c = are.steps.next j (σ.back a) (σ.back b) m (has_back (suc j) b n)
+          in (
+            c.0,
+            subst (L j) (sym (back_add a _ ∙ ap (A.add (σ.back a)) (back_neg _
+                ∙ ap A.neg (back_mul (constant_b c.0) b ∙ ap (λ t. A.mul t (σ.back b))
+                (back_constant c.0))))) c.1,
+          );
       decide = λ j b m. are.steps.decide j (σ.back b) m;
     }
 

@@ -2,6 +2,7 @@
 pub mod FieldSpaces
 pub mod Regular
 pub mod Values
+pub mod LinearValues
 pub mod AlgebraicConstants
 -- Elements bounded over one with a pole, and the rings that have them
 pub mod Bounded
@@ -14,11 +15,14 @@ pub mod RegularCharts
 pub mod CurvePlaces
 pub mod PlacePoints
 pub mod SystemSpaces
+pub mod SystemRings
 pub mod TwoPoints
--- Isomorphisms of fields
+-- Isomorphisms of fields, and the points and systems that they carry
 pub mod Isomorphisms
 pub mod CarriedPlaces
 pub mod MatchedSystems
--- The isomorphism that a pair and its inverse pair give
+pub mod CarriedRings
+-- The isomorphism that a pair and its inverse pair give, and the choice that finds it
 pub mod PairMaps
 pub mod PairIsomorphisms
+pub mod PairChoices

@@ -39,6 +39,19 @@ use Rattle.ff_places.proofs.FieldSpaces.{AreFieldSpaces, order_or_zero}
 use Rattle.ff_places.proofs.ChartOrders.{at_u_proper}
 use Rattle.ff_places.proofs.CurvePlaces.{curve_field}
 
+-- the least functions of a system
+abbrev pub least_functions : {F : Elements ℕ} (L : Lawful F) (f : List (List ℕ)) (o : Order)
+    (p : Point)
+    (other : Order) (J : ℕ) (s : System) → IsSystem L f o p other J s
+    → HasLeastFunctions L f o p other s
+least_functions L f o p other J s y = record {
+  positive = y.positive;
+  is_number = y.is_number;
+  least = y.least;
+  z = y.z;
+  basis = y.basis;
+}
+
 -- the greatest of the first n numbers
 abbrev greatest_of : (ℕ → ℕ) → ℕ → ℕ
 greatest_of m zero = 0

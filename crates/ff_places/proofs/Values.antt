@@ -28,7 +28,7 @@ module _ {K : Field} (S : FieldSpaces K) where
       go (inr l) = l
 
   -- a constant that vanishes is 0
-  vanishing_constant : (c : K.carrier) → AtLeast S 1 (S.constant c) → c ≡ K.zero
+  pub vanishing_constant : (c : K.carrier) → AtLeast S 1 (S.constant c) → c ≡ K.zero
   vanishing_constant c h = go (K.same c K.zero) refl
     where
       go : (b : Bool) → K.same c K.zero ≡ b → c ≡ K.zero
